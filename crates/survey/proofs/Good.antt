@@ -1,0 +1,116 @@
+-- Entries that have passed the checks stay good: behind a new place, with a new way behind them, and at another price.
+use mathlib.Core.Path.{_≡_, refl, sym, ap, _∙_}
+use mathlib.Core.Bool.{Bool, true, false, cond}
+use mathlib.Core.List.{List, [], _∷_, _++_}
+use Prim.Native.Nat.{ℕ, zero, suc, _+_, _<_, _≤_}
+use native.Mathlib.Omega.{arith}
+use lib.Dec.{leb, ltb, eqb}
+use lib.ListN.{length, getD, set}
+use Rattle.std.specs.Results.{isOk}
+use Rattle.std.specs.Finite.{nth}
+use Rattle.std.specs.declared.option.Option.{Option}
+use Rattle.std.specs.declared.option.Option.the-variants.{Some, None}
+use Rattle.std.specs.declared.result.Result.{Result}
+use Rattle.std.specs.declared.result.Result.the-variants.{Ok, Err}
+use Rattle.std.proofs.shelf.Ways.{tells}
+use Rattle.refusal.specs.declared.Refusal.{Refusal}
+use Rattle.card.specs.Card.{lossOf}
+use Rattle.survey.specs.declared.entry.Place.{Place}
+use Rattle.survey.specs.declared.entry.WayEntry.{WayEntry}
+use Rattle.survey.specs.Checks.{then, priceCheck, placeCheck, endsCheck, wayCheck, goodPlaces, goodWay, goodWays}
+use Rattle.survey.specs.Contents.{Contents}
+use Rattle.survey.specs.Edits.{priced, repriceWay, reprice}
+use Rattle.refusal.specs.declared.Refusal.the-variants.{NoSuchWay}
+use Rattle.std.proofs.shelf.Maps.{nth-read, nth-past}
+
+-- a test of two parts passes only if both do
+pub cond-first : (a b : Bool) → cond a b false ≡ true → a ≡ true
+cond-first true b h = refl
+cond-first false b h = h
+
+pub cond-second : (a b : Bool) → cond a b false ≡ true → b ≡ true
+cond-second true b h = h
+cond-second false b h = let z : false ≡ true = h in cc
+
+pub cond-both : (a b : Bool) → a ≡ true → b ≡ true → cond a b false ≡ true
+cond-both a b h k = ap (λ x. cond x b false) h ∙ k
+
+pub places-push : (ps : List Place) (p : Place) → goodPlaces ps ≡ true → isOk (placeCheck (p .repeater)) ≡ true → goodPlaces (ps ++ p ∷ []) ≡ true
+places-push [] p h k = cond-both (isOk (placeCheck (p .repeater))) true k refl
+places-push (q ∷ ps) p h k =
+    cond-both (isOk (placeCheck (q .repeater))) (goodPlaces (ps ++ p ∷ [])) (cond-first (isOk (placeCheck (q .repeater))) (goodPlaces ps) h)
+    (places-push ps p (cond-second (isOk (placeCheck (q .repeater))) (goodPlaces ps) h) k)
+
+pub ways-push : (n : ℕ) (ws : List WayEntry) (w : WayEntry) → goodWays n ws ≡ true → goodWay n w ≡ true → goodWays n (ws ++ w ∷ []) ≡ true
+ways-push n [] w h k = cond-both (goodWay n w) true k refl
+ways-push n (v ∷ ws) w h k =
+    cond-both (goodWay n v) (goodWays n (ws ++ w ∷ [])) (cond-first (goodWay n v) (goodWays n ws) h)
+    (ways-push n ws w (cond-second (goodWay n v) (goodWays n ws) h) k)
+
+-- a check of two parts passes again where each part does
+then-kept : {X Y : Type 0} (a b : Result X Refusal) (f g : X → Result Y Refusal) → ((x : X) → a ≡ Ok x → b ≡ Ok x)
+    → ((x : X) → isOk (f x) ≡ true → isOk (g x) ≡ true) → isOk (then a f) ≡ true → isOk (then b g) ≡ true
+then-kept (Ok x) b f g first second h = ap (λ r. isOk (then r g)) (first x refl) ∙ second x h
+then-kept (Err e) b f g first second h = let z : false ≡ true = h in cc
+
+ends-more : (n : ℕ) (w : WayEntry) (x : Unit {0}) → endsCheck n w ≡ Ok x → endsCheck (n + 1) w ≡ Ok x
+ends-more n w x h = grind (arith, tells)
+
+-- one place more takes no end of a way away
+way-more : (n : ℕ) (w : WayEntry) → goodWay n w ≡ true → goodWay (n + 1) w ≡ true
+way-more n w h =
+    cond-both (isOk (wayCheck (n + 1) w)) (ltb (w .grade) 256)
+    (then-kept (endsCheck n w) (endsCheck (n + 1) w) _ _ (ends-more n w) (λ x k. k) (cond-first (isOk (wayCheck n w)) (ltb (w .grade) 256) h))
+    (cond-second (isOk (wayCheck n w)) (ltb (w .grade) 256) h)
+
+pub ways-more : (n : ℕ) (ws : List WayEntry) → goodWays n ws ≡ true → goodWays (n + 1) ws ≡ true
+ways-more n [] h = refl
+ways-more n (w ∷ ws) h =
+    cond-both (goodWay (n + 1) w) (goodWays (n + 1) ws) (way-more n w (cond-first (goodWay n w) (goodWays n ws) h))
+    (ways-more n ws (cond-second (goodWay n w) (goodWays n ws) h))
+
+way-priced : (n : ℕ) (w : WayEntry) (p : ℕ) → goodWay n w ≡ true → isOk (priceCheck p) ≡ true → goodWay n (priced w p) ≡ true
+way-priced n w p h k =
+    cond-both (isOk (wayCheck n (priced w p))) (ltb (w .grade) 256)
+    (then-kept (endsCheck n w) (endsCheck n w) _ _ (λ x e. e)
+     (λ x. then-kept (lossOf (w .letter) (w .metres)) (lossOf (w .letter) (w .metres)) _ _ (λ y e. e) (λ y q. k))
+     (cond-first (isOk (wayCheck n w)) (ltb (w .grade) 256) h))
+    (cond-second (isOk (wayCheck n w)) (ltb (w .grade) 256) h)
+
+pub ways-priced : (n : ℕ) (ws : List WayEntry) (i : ℕ) (w : WayEntry) (p : ℕ) → goodWays n ws ≡ true → nth ws i ≡ Some w → isOk (priceCheck p) ≡ true
+    → goodWays n (set ws i (priced w p)) ≡ true
+ways-priced n [] i w p h e k = refl
+ways-priced n (v ∷ ws) zero w p h e k =
+    let same : v ≡ w = grind arith in
+    cond-both (goodWay n (priced w p)) (goodWays n ws)
+    (way-priced n w p (ap (goodWay n) (sym same) ∙ cond-first (goodWay n v) (goodWays n ws) h) k)
+    (cond-second (goodWay n v) (goodWays n ws) h)
+ways-priced n (v ∷ ws) (suc i) w p h e k =
+    cond-both (goodWay n v) (goodWays n (set ws i (priced w p))) (cond-first (goodWay n v) (goodWays n ws) h)
+    (ways-priced n ws i w p (cond-second (goodWay n v) (goodWays n ws) h) e k)
+
+-- to write what stands there changes nothing
+pub set-same : {X : Type 0} (xs : List X) (i : ℕ) (x : X) → nth xs i ≡ Some x → set xs i x ≡ xs
+set-same [] i x h = refl
+set-same (y ∷ xs) zero x h = let same : y ≡ x = grind arith in ap (λ z. z ∷ xs) (sym same)
+set-same (y ∷ xs) (suc i) x h = ap (λ zs. y ∷ zs) (set-same xs i x h)
+
+-- an element that was lent is the one of its number
+pub lent-at : {X : Type 0} (xs : List X) (n i : ℕ) (x : X) → n ≡ length xs → true ≡ ltb i n → x ≡ getD xs i x → nth xs i ≡ Some x
+lent-at xs n i x e h is = let below : i < n = grind (arith, tells) in nth-read xs n i x e below is
+
+pub not-lent-at : {X : Type 0} (xs : List X) (n i : ℕ) → n ≡ length xs → false ≡ ltb i n → nth xs i ≡ None
+not-lent-at xs n i e h = let past : length xs ≤ i = grind (arith, tells) in nth-past xs i past
+
+-- the three ways in which repricing ends
+pub reprice-done : (c : Contents) (i p : ℕ) (w : WayEntry) (u : Unit {0}) → nth (c .ways) i ≡ Some w → Ok u ≡ priceCheck p
+    → reprice c i p ≡ Ok (record { places = c .places; ways = set (c .ways) i (priced w p) })
+reprice-done c i p w u at passed =
+    ap (repriceWay c i p) at ∙ ap (λ r. then r (λ _. Ok (record { places = c .places; ways = set (c .ways) i (priced w p) }))) (sym passed)
+
+pub reprice-dear : (c : Contents) (i p : ℕ) (w : WayEntry) (e : Refusal) → nth (c .ways) i ≡ Some w → Err e ≡ priceCheck p → reprice c i p ≡ Err e
+reprice-dear c i p w e at dear =
+    ap (repriceWay c i p) at ∙ ap (λ r. then r (λ _. Ok (record { places = c .places; ways = set (c .ways) i (priced w p) }))) (sym dear)
+
+pub reprice-none : (c : Contents) (i p : ℕ) → nth (c .ways) i ≡ None → reprice c i p ≡ Err NoSuchWay
+reprice-none c i p at = ap (repriceWay c i p) at
