@@ -1,2 +1,4 @@
 pub mod Entering
 pub mod Turning
+pub mod Answering
+pub mod ReadsBack

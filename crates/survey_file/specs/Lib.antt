@@ -1,3 +1,4 @@
 pub mod Fields
 pub mod Records
 pub mod Decode
+pub mod Encode
