@@ -15,7 +15,7 @@ use Rattle.survey.specs.declared.entry.Place.{Place}
 use Rattle.survey.specs.declared.entry.WayEntry.{WayEntry}
 
 -- what an accepted check passes on to; a refusal goes on as it is
-abbrev pub then : {X Y : Type 0} → Result X Refusal → (X → Result Y Refusal) → Result Y Refusal
+abbrev pub then : {X Y E : Type 0} → Result X E → (X → Result Y E) → Result Y E
 then (Ok x) f = f x
 then (Err e) f = Err e
 

@@ -17,12 +17,12 @@ use Rattle.survey.specs.Checks.{then, priceCheck, placeCheck, wayCheck}
 use Rattle.survey.specs.Contents.{Contents}
 
 -- what a call answers: x where the edit is accepted, else its refusal
-abbrev pub given : {X Y : Type 0} → X → Result Y Refusal → Result X Refusal
+abbrev pub given : {X Y E : Type 0} → X → Result Y E → Result X E
 given x (Ok y) = Ok x
 given x (Err e) = Err e
 
 -- what a call leaves: the new contents where the edit is accepted, else the old ones
-abbrev pub left : Contents → Result Contents Refusal → Contents
+abbrev pub left : {E : Type 0} → Contents → Result Contents E → Contents
 left c (Ok d) = d
 left c (Err e) = c
 

@@ -7,17 +7,20 @@ use Rattle.std.specs.Results.{isOk}
 use Rattle.std.specs.declared.result.Result.{Result}
 use Rattle.std.specs.declared.result.Result.the-variants.{Ok, Err}
 use Rattle.refusal.specs.declared.Refusal.{Refusal}
-use Rattle.refusal.specs.declared.Fault.{Fault}
-use Rattle.survey_file.specs.Fields.{then, located}
+use Rattle.survey.specs.Checks.{then}
+use Rattle.survey_file.specs.Fields.{located}
 
 pub unit-ok : {E : Type 0} (r : Result (Unit {0}) E) → isOk r ≡ true → r ≡ Ok tt
 unit-ok (Ok u) h = refl
 unit-ok (Err e) h = let z : false ≡ true = h in cc
 
-never : {X E : Type 0} (e : E) (x : X) → Err e ≡ Ok x → ⊥
+pub never : {X E : Type 0} (e : E) (x : X) → Err e ≡ Ok x → ⊥
 never e x h = let z : _≡_ {A = ℕ} 0 1 = cc in omega arith
 
-pub then-ok : {X Y : Type 0} (r : Result X Fault) (f : X → Result Y Fault) (y : Y) → then r f ≡ Ok y → (x : X) × (r ≡ Ok x) × (f x ≡ Ok y)
+pub ok-same : {X E : Type 0} (x y : X) → _≡_ {A = Result X E} (Ok x) (Ok y) → x ≡ y
+ok-same x y h = cc
+
+pub then-ok : {X Y E : Type 0} (r : Result X E) (f : X → Result Y E) (y : Y) → then r f ≡ Ok y → (x : X) × (r ≡ Ok x) × (f x ≡ Ok y)
 then-ok (Ok x) f y h = (x, refl, h)
 then-ok (Err e) f y h = absurd (never e y h)
 

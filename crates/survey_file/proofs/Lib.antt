@@ -2,3 +2,4 @@ pub mod Entering
 pub mod Turning
 pub mod Answering
 pub mod ReadsBack
+pub mod OnlyFile

@@ -20,8 +20,7 @@ use Rattle.refusal.specs.declared.Refusal.the-variants.{CutShort, WrongLength, 
 use Rattle.refusal.specs.declared.Fault.{Fault}
 use Rattle.survey.specs.declared.entry.Place.{Place}
 use Rattle.survey.specs.declared.entry.WayEntry.{WayEntry}
-use Rattle.survey.specs.Checks as checks
-use Rattle.survey.specs.Checks.{placeCheck, wayCheck, goodPlaces, goodWay, goodWays}
+use Rattle.survey.specs.Checks.{then, placeCheck, wayCheck, goodPlaces, goodWay, goodWays}
 use Rattle.survey.specs.Contents.{Contents, noContents}
 use Rattle.survey.specs.Edits.{ofRepeater, addPlace, addWay}
 use Rattle.survey.proofs.Good.{cond-first, cond-second}
@@ -30,7 +29,7 @@ use Rattle.survey_file.specs.declared.record.WayRecord.{WayRecord}
 use Rattle.survey_file.specs.declared.reader.Phase.{Phase}
 use Rattle.survey_file.specs.declared.reader.Phase.the-variants as phase
 use Rattle.survey_file.specs.declared.reader.State.{State}
-use Rattle.survey_file.specs.Fields.{fault, then, located, twoAt, fourAt, headAt, bodyAt}
+use Rattle.survey_file.specs.Fields.{fault, located, twoAt, fourAt, headAt, bodyAt}
 use Rattle.survey_file.specs.Records.{wayIn, placeAt, wayAt, endAt}
 use Rattle.survey_file.specs.Decode.{Turned, to, turnOf, moveOf, ended, walk, start, decode}
 use Rattle.survey_file.specs.Encode.{headField, repeaterField, placeField, wayField, endField, fileOf}
@@ -99,24 +98,24 @@ four-here bs at ys i k n h e a b c d =
     let back : n / 65536 * 65536 + n % 65536 ≡ n = omega arith in
     ap (λ x. x * 65536 + twoAt bs (i + 2)) high ∙ ap (λ x. n / 65536 * 65536 + x) low ∙ back
 
-abbrev withPlaces : Contents → List Place → Contents
+abbrev pub withPlaces : Contents → List Place → Contents
 withPlaces c ps = record { places = c .places ++ ps; ways = c .ways }
 
-abbrev withWays : Contents → List WayEntry → Contents
+abbrev pub withWays : Contents → List WayEntry → Contents
 withWays c ws = record { places = c .places; ways = c .ways ++ ws }
 
 -- a good entry is taken
 place-taken : (c : Contents) (r : Option ℕ) → length (c .places) < 256 → isOk (placeCheck r) ≡ true → addPlace c r ≡ Ok (withPlaces c (ofRepeater r ∷ []))
 place-taken c r few good =
     let room : ltb (length (c .places)) 256 ≡ true = grind (arith, tells) in
-    ap (λ b. cond b (checks.then (placeCheck r) (λ _. Ok (withPlaces c (ofRepeater r ∷ [])))) (Err DraftFull)) room
-    ∙ ap (λ x. checks.then x (λ _. Ok (withPlaces c (ofRepeater r ∷ [])))) (unit-ok (placeCheck r) good)
+    ap (λ b. cond b (then (placeCheck r) (λ _. Ok (withPlaces c (ofRepeater r ∷ [])))) (Err DraftFull)) room
+    ∙ ap (λ x. then x (λ _. Ok (withPlaces c (ofRepeater r ∷ [])))) (unit-ok (placeCheck r) good)
 
 way-taken : (c : Contents) (w : WayEntry) → length (c .ways) < 1024 → isOk (wayCheck (length (c .places)) w) ≡ true → addWay c w ≡ Ok (withWays c (w ∷ []))
 way-taken c w few good =
     let room : ltb (length (c .ways)) 1024 ≡ true = grind (arith, tells) in
-    ap (λ b. cond b (checks.then (wayCheck (length (c .places)) w) (λ _. Ok (withWays c (w ∷ [])))) (Err DraftFull)) room
-    ∙ ap (λ x. checks.then x (λ _. Ok (withWays c (w ∷ [])))) (unit-ok (wayCheck (length (c .places)) w) good)
+    ap (λ b. cond b (then (wayCheck (length (c .places)) w) (λ _. Ok (withWays c (w ∷ [])))) (Err DraftFull)) room
+    ∙ ap (λ x. then x (λ _. Ok (withWays c (w ∷ [])))) (unit-ok (wayCheck (length (c .places)) w) good)
 
 -- what one field does
 turn-by : (bs : List ℕ) (s : State) (c : Contents) (h : Head) → headAt bs (s .at) ≡ Ok h → turnOf bs s c ≡ moveOf (s .phase) bs (s .at) h c
@@ -191,7 +190,7 @@ way-back bs at w ys h =
     (two-here bs at zs (at + 3 + 6) 9 (w .metres) h (omega arith) refl refl)
     (four-here bs at zs (at + 3 + 8) 11 (w .price) h (omega arith) refl refl refl refl)
 
-abbrev wayRecord : WayEntry → ℕ → WayRecord
+abbrev pub wayRecord : WayEntry → ℕ → WayRecord
 wayRecord w n = record { way = w; next = n }
 
 turn-way : (p : Phase) (bs : List ℕ) (at : ℕ) (ys : List ℕ) (c : Contents) (w : WayEntry) → Late p → Here bs at (wayField w ++ ys)

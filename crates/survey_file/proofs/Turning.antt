@@ -10,7 +10,7 @@ use Rattle.std.specs.declared.result.Result.the-variants.{Ok, Err}
 use Rattle.refusal.specs.declared.Fault.{Fault}
 use Rattle.survey.specs.Contents.{Contents, noContents}
 use Rattle.survey_file.specs.declared.reader.State.{State}
-use Rattle.survey_file.specs.Fields.{then}
+use Rattle.survey.specs.Checks.{then}
 use Rattle.survey_file.specs.Decode.{Turned, turnOf, ended, walk, start, decode, stateOf, contentsOf}
 
 pub record Left (bs : List ℕ) (s : State) (c : Contents) : Type 0 where

@@ -9,13 +9,14 @@ use Rattle.std.specs.declared.result.Result.{Result}
 use Rattle.std.specs.declared.result.Result.the-variants.{Ok, Err}
 use Rattle.refusal.specs.declared.Refusal.the-variants.{CutShort, WrongTag}
 use Rattle.refusal.specs.declared.Fault.{Fault}
+use Rattle.survey.specs.Checks.{then}
 use Rattle.survey.specs.Contents.{Contents, noContents}
 use Rattle.survey.specs.Edits.{addPlace, addWay}
 use Rattle.survey_file.specs.declared.field.Head.{Head}
 use Rattle.survey_file.specs.declared.reader.Phase.{Phase}
 use Rattle.survey_file.specs.declared.reader.Phase.the-variants as phase
 use Rattle.survey_file.specs.declared.reader.State.{State}
-use Rattle.survey_file.specs.Fields.{fault, then, located, headAt}
+use Rattle.survey_file.specs.Fields.{fault, located, headAt}
 use Rattle.survey_file.specs.Records.{editionAt, placeAt, wayAt, endAt}
 
 -- where the reader has come to, and what it has entered
@@ -72,15 +73,6 @@ start = record { phase = phase.Head; at = 0 }
 -- what a whole file says
 abbrev pub decode : List ℕ → Result Contents Fault
 decode bs = walk (suc (length bs)) bs start noContents
-
--- what reading answers and leaves: the contents of the file where it is accepted, else what stood before
-abbrev pub given : {X Y : Type 0} → X → Result Y Fault → Result X Fault
-given x (Ok y) = Ok x
-given x (Err e) = Err e
-
-abbrev pub left : Contents → Result Contents Fault → Contents
-left c (Ok d) = d
-left c (Err e) = c
 
 -- the state after a record that enters nothing
 abbrev pub reached : Phase → Result ℕ Fault → Result State Fault

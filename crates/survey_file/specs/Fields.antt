@@ -16,11 +16,6 @@ use Rattle.survey_file.specs.declared.field.Head.{Head}
 abbrev pub fault : {X : Type 0} → Refusal → ℕ → Result X Fault
 fault r at = Err (record { refusal = r; place = at })
 
--- what a good answer goes on to; a fault goes on as it is
-abbrev pub then : {X Y : Type 0} → Result X Fault → (X → Result Y Fault) → Result Y Fault
-then (Ok x) f = f x
-then (Err e) f = Err e
-
 -- the number in the two bytes from i on
 abbrev pub twoAt : List ℕ → ℕ → ℕ
 twoAt bs i = getD bs i 0 * 256 + getD bs (i + 1) 0

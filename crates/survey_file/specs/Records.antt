@@ -10,10 +10,11 @@ use Rattle.std.specs.declared.result.Result.the-variants.{Ok, Err}
 use Rattle.refusal.specs.declared.Refusal.the-variants.{WrongEdition, BytesBehind}
 use Rattle.refusal.specs.declared.Fault.{Fault}
 use Rattle.survey.specs.declared.entry.WayEntry.{WayEntry}
+use Rattle.survey.specs.Checks.{then}
 use Rattle.survey_file.specs.declared.field.Head.{Head}
 use Rattle.survey_file.specs.declared.record.PlaceRecord.{PlaceRecord}
 use Rattle.survey_file.specs.declared.record.WayRecord.{WayRecord}
-use Rattle.survey_file.specs.Fields.{fault, then, twoAt, fourAt, bodyAt}
+use Rattle.survey_file.specs.Fields.{fault, twoAt, fourAt, bodyAt}
 
 -- two bytes: the edition, which is 1
 abbrev pub editionAt : List ℕ → ℕ → Head → Result ℕ Fault

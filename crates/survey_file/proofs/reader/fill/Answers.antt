@@ -5,7 +5,7 @@ use Rattle.std.specs.Vec.{made}
 use Rattle.std.specs.declared.result.Result.the-variants.{Ok, Err}
 use Rattle.std.proofs.shelf.Results.{err-from-errBy, made-from-err}
 use Rattle.survey.specs.Contents.{contents}
-use Rattle.survey_file.specs.Decode.{given}
+use Rattle.survey.specs.Edits.{given}
 use Rattle.survey_file.proofs.Turning.{first, at-end, after-err, after-ok}
 use Rattle.survey_file.proofs.reader.fill.Needs as need
 
