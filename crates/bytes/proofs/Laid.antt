@@ -2,7 +2,7 @@
 use mathlib.Core.Path.{_≡_, refl, sym, ap, _∙_}
 use mathlib.Core.Bool.{Bool, true, false, cond}
 use mathlib.Core.List.{List, [], _∷_, _++_}
-use Prim.Native.Nat.{ℕ, _+_, _-_, _≤_}
+use Prim.Native.Nat.{ℕ, _+_, _-_, _≤_, _<_}
 use native.Mathlib.Omega.{arith}
 use lib.Dec.{leb}
 use lib.ListN.{length, take, drop}
@@ -71,3 +71,10 @@ written out xs last at k h e n =
     ∙ ap (λ s. (take at out ++ s) ++ drop (at + length xs) out) (take-all (length xs) xs (omega arith))
     ∙ append-assoc (take at out) xs (drop (at + length xs) out)
     ∙ sym (over-fits out at xs h)
+
+-- a piece that does not fit is refused, and changes nothing
+pub placed-not : (out : List ℕ) (at : ℕ) (xs : List ℕ) → length out < at + length xs → placed out at xs ≡ Err NoRoom
+placed-not out at xs h = cond-false (leb (at + length xs) (length out)) (Ok (at + length xs)) (Err NoRoom) (lt-leb (at + length xs) (length out) h)
+
+pub over-not : (out : List ℕ) (at : ℕ) (xs : List ℕ) → length out < at + length xs → over out at xs ≡ out
+over-not out at xs h = cond-false (leb (at + length xs) (length out)) (take at out ++ (xs ++ drop (at + length xs) out)) out (lt-leb (at + length xs) (length out) h)

@@ -14,13 +14,14 @@ use Rattle.std.specs.declared.result.Result.{Result}
 use Rattle.std.specs.declared.result.Result.the-variants.{Ok, Err}
 use Rattle.std.proofs.shelf.Ways.{tells}
 use Rattle.refusal.specs.declared.Refusal.{Refusal}
-use Rattle.card.specs.Card.{lossOf}
+use Rattle.card.specs.Card.{lossOf, entryOf}
+use Rattle.std.proofs.shelf.Tests.{eqb-true}
 use Rattle.survey.specs.declared.entry.Place.{Place}
 use Rattle.survey.specs.declared.entry.WayEntry.{WayEntry}
 use Rattle.survey.specs.Checks.{then, priceCheck, placeCheck, endsCheck, wayCheck, goodPlaces, goodWay, goodWays}
 use Rattle.survey.specs.Contents.{Contents}
 use Rattle.survey.specs.Edits.{priced, repriceWay, reprice}
-use Rattle.refusal.specs.declared.Refusal.the-variants.{NoSuchWay}
+use Rattle.refusal.specs.declared.Refusal.the-variants.{NoSuchWay, WrongLetter}
 use Rattle.std.proofs.shelf.Maps.{nth-read, nth-past}
 
 -- a test of two parts passes only if both do
@@ -114,3 +115,35 @@ reprice-dear c i p w e at dear =
 
 pub reprice-none : (c : Contents) (i p : ℕ) → nth (c .ways) i ≡ None → reprice c i p ≡ Err NoSuchWay
 reprice-none c i p at = ap (repriceWay c i p) at
+
+-- each of the ways of a list that is good is good
+pub way-good : (n : ℕ) (ws : List WayEntry) (i : ℕ) (w : WayEntry) → goodWays n ws ≡ true → nth ws i ≡ Some w → goodWay n w ≡ true
+way-good n [] i w h e = let z : _≡_ {A = ℕ} 0 1 = cc in absurd (omega arith)
+way-good n (v ∷ ws) zero w h e = let same : v ≡ w = cc in ap (goodWay n) (sym same) ∙ cond-first (goodWay n v) (goodWays n ws) h
+way-good n (v ∷ ws) (suc i) w h e = way-good n ws i w (cond-second (goodWay n v) (goodWays n ws) h) e
+
+pub way-passed : (n : ℕ) (w : WayEntry) → goodWay n w ≡ true → isOk (wayCheck n w) ≡ true
+way-passed n w h = cond-first (isOk (wayCheck n w)) (ltb (w .grade) 256) h
+
+-- a check of two parts that passes has passed the first part, and the second
+pub then-passed : {X Y E : Type 0} (r : Result X E) (f : X → Result Y E) → isOk (then r f) ≡ true → (x : X) × (r ≡ Ok x) × (isOk (f x) ≡ true)
+then-passed (Ok x) f h = (x, refl, h)
+then-passed (Err e) f h = let z : _≡_ {A = ℕ} 0 1 = cc in absurd (omega arith)
+
+-- the card knows the cable of a way that has passed
+pub way-loss : (n : ℕ) (w : WayEntry) → isOk (wayCheck n w) ≡ true → (l : ℕ) × (lossOf (w .letter) (w .metres) ≡ Ok l)
+way-loss n w h =
+    let ends = then-passed (endsCheck n w) (λ _. then (lossOf (w .letter) (w .metres)) (λ _. priceCheck (w .price))) h in
+    let cable = then-passed (lossOf (w .letter) (w .metres)) (λ _. priceCheck (w .price)) (ends .2) in
+    (cable .0, cable .1)
+
+letter-by : (b c d : Bool) (letter metres l : ℕ) → eqb letter 85 ≡ b → eqb letter 83 ≡ c → eqb letter 70 ≡ d
+    → entryOf (cond b (Ok 0) (cond c (Ok 1) (cond d (Ok 2) (Err WrongLetter)))) metres ≡ Ok l → letter < 256
+letter-by true c d letter metres l u s f h = omega (arith, eqb-true letter 85 u)
+letter-by false true d letter metres l u s f h = omega (arith, eqb-true letter 83 s)
+letter-by false false true letter metres l u s f h = omega (arith, eqb-true letter 70 f)
+letter-by false false false letter metres l u s f h = let z : _≡_ {A = ℕ} 0 1 = cc in absurd (omega arith)
+
+-- its letter is a byte
+pub letter-small : (letter metres l : ℕ) → lossOf letter metres ≡ Ok l → letter < 256
+letter-small letter metres l h = letter-by (eqb letter 85) (eqb letter 83) (eqb letter 70) letter metres l refl refl refl h

@@ -1,4 +1,5 @@
 ghost use mathlib.Core.Path.{_≡_};
+ghost use Prim.Native.Nat.{_≤_};
 ghost use lib.ListN.{length};
 ghost use Rattle.std.specs.Finite.{nth};
 ghost use Rattle.survey.specs.Contents.{contents};
@@ -25,14 +26,16 @@ impl Draft {
 impl Sealed {
     // How many places the survey has.
     pub fn places(&self) -> usize
-        ensures { λ r. ⌜ r ≡ length (sealedContents (now (self .entry)) .places) ⌝ }
+        ensures value { λ r. ⌜ r ≡ length (sealedContents (now (self .entry)) .places) ⌝ }
+        ensures few { λ r. ⌜ r ≤ 256 ⌝ }
     {
         self.draft.places()
     }
 
     // How many ways the survey has.
     pub fn ways(&self) -> usize
-        ensures { λ r. ⌜ r ≡ length (sealedContents (now (self .entry)) .ways) ⌝ }
+        ensures value { λ r. ⌜ r ≡ length (sealedContents (now (self .entry)) .ways) ⌝ }
+        ensures few { λ r. ⌜ r ≤ 1024 ⌝ }
     {
         self.draft.ways()
     }

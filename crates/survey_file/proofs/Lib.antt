@@ -3,3 +3,4 @@ pub mod Turning
 pub mod Answering
 pub mod ReadsBack
 pub mod OnlyFile
+pub mod Writing

@@ -2,3 +2,4 @@
 pub mod field;
 pub mod record;
 pub mod reader;
+pub mod writer;

@@ -7,6 +7,7 @@ ghost use Rattle.std.specs.declared.result.Result.the-variants.{Ok};
 ghost use Rattle.survey.specs.Contents.{contents, noContents};
 ghost use Rattle.survey_file.specs.Fields.{located};
 ghost use Rattle.survey_file.specs.Decode.{ended, turnOf, stateOf, contentsOf, enterPlace, enterWay, reached, decode};
+ghost use Rattle.survey_file.specs.Encode.{fileOf};
 ghost use Rattle.survey.specs.Edits.{given, left};
 ghost use Rattle.survey_file.specs.Records.{editionAt, endAt};
 use crate::field::Head;
@@ -151,6 +152,7 @@ impl FileReader {
     pub fn read(&mut self, bytes: &[u8], draft: &mut Draft) -> Result<(), Fault>
         ensures answer { λ r. ⌜ r ≡ given tt (decode (now (bytes .entry))) ⌝ }
         ensures after { λ _. ⌜ contents (now (draft .exit)) ≡ left (contents (now (draft .entry))) (decode (now (bytes .entry))) ⌝ }
+        ensures written { λ r. ⌜ made r (λ _. now (bytes .entry) ≡ fileOf (contents (now (draft .exit)))) ⌝ }
     {
         self.spare.clear();
         fill(bytes, &mut self.spare)?;

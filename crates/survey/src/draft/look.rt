@@ -1,4 +1,5 @@
 ghost use mathlib.Core.Path.{_≡_};
+ghost use Prim.Native.Nat.{_≤_};
 ghost use lib.ListN.{length};
 ghost use Rattle.std.specs.Finite.{nth};
 ghost use Rattle.survey.specs.Contents.{contents};
@@ -9,14 +10,16 @@ use crate::entry::WayEntry;
 impl Draft {
     // How many places are entered.
     pub fn places(&self) -> usize
-        ensures { λ r. ⌜ r ≡ length (contents (now (self .entry)) .places) ⌝ }
+        ensures value { λ r. ⌜ r ≡ length (contents (now (self .entry)) .places) ⌝ }
+        ensures few { λ r. ⌜ r ≤ 256 ⌝ }
     {
         self.places.len()
     }
 
     // How many ways are entered.
     pub fn ways(&self) -> usize
-        ensures { λ r. ⌜ r ≡ length (contents (now (self .entry)) .ways) ⌝ }
+        ensures value { λ r. ⌜ r ≡ length (contents (now (self .entry)) .ways) ⌝ }
+        ensures few { λ r. ⌜ r ≤ 1024 ⌝ }
     {
         self.table.ways.len()
     }
