@@ -9,7 +9,8 @@ use lib.ListN.{length, take, drop}
 use Rattle.std.proofs.shelf.Lists.{append-assoc, append-nil, length-append, length-take, length-take-le, length-drop, take-at, drop-at, take-all, take-append-drop, drop-drop}
 use Rattle.std.proofs.shelf.Parts.{putMid-paste}
 use borrow.Rule.Slice.PartMut.{putMid}
-use Rattle.std.proofs.shelf.Tests.{le-leb, lt-leb, cond-true, cond-false}
+use mathlib.Core.Logic.{_⊎_, inl, inr}
+use Rattle.std.proofs.shelf.Tests.{le-leb, lt-leb, cond-true, cond-false, cases-lt}
 use Rattle.std.specs.declared.result.Result.{Result}
 use Rattle.std.specs.declared.result.Result.the-variants.{Ok, Err}
 use Rattle.refusal.specs.declared.Refusal.{Refusal}
@@ -47,16 +48,16 @@ over-more out at next xs ys n h =
     let same-length = over-length out at xs first-fits in
     let front = length-take-le at out (omega arith) in
     let o-is : o ≡ (take at out ++ xs) ++ drop (at + length xs) out =
-          over-fits out at xs first-fits ∙ sym (append-assoc (take at out) xs (drop (at + length xs) out)) in
+    over-fits out at xs first-fits ∙ sym (append-assoc (take at out) xs (drop (at + length xs) out)) in
     let front-long : length (take at out ++ xs) ≡ next = length-append (take at out) xs ∙ omega arith in
     let taken : take next o ≡ take at out ++ xs = ap (take next) o-is ∙ take-at (take at out ++ xs) (drop (at + length xs) out) next front-long in
     let together : at + length xs + length ys ≡ at + length (xs ++ ys) = omega arith in
     let left : drop (next + length ys) o ≡ drop (at + length (xs ++ ys)) out =
-          sym (drop-drop (length ys) next o)
-          ∙ ap (λ l. drop (length ys) (drop next l)) o-is
-          ∙ ap (drop (length ys)) (drop-at (take at out ++ xs) (drop (at + length xs) out) next front-long)
-          ∙ drop-drop (length ys) (at + length xs) out
-          ∙ ap (λ m. drop m out) together in
+    sym (drop-drop (length ys) next o)
+    ∙ ap (λ l. drop (length ys) (drop next l)) o-is
+    ∙ ap (drop (length ys)) (drop-at (take at out ++ xs) (drop (at + length xs) out) next front-long)
+    ∙ drop-drop (length ys) (at + length xs) out
+    ∙ ap (λ m. drop m out) together in
     over-fits o next ys (omega arith)
     ∙ ap (λ f. f ++ (ys ++ drop (next + length ys) o)) taken
     ∙ ap (λ b. (take at out ++ xs) ++ (ys ++ b)) left
@@ -78,3 +79,23 @@ placed-not out at xs h = cond-false (leb (at + length xs) (length out)) (Ok (at 
 
 pub over-not : (out : List ℕ) (at : ℕ) (xs : List ℕ) → length out < at + length xs → over out at xs ≡ out
 over-not out at xs h = cond-false (leb (at + length xs) (length out)) (take at out ++ (xs ++ drop (at + length xs) out)) out (lt-leb (at + length xs) (length out) h)
+
+-- a piece that was laid had room
+pub placed-ok : (out : List ℕ) (at : ℕ) (xs : List ℕ) (n : ℕ) → Ok n ≡ placed out at xs → (at + length xs ≤ length out) × (n ≡ at + length xs)
+placed-ok out at xs n h = elim (cases-lt (length out) (at + length xs)) [
+  | inl short ↦ let z : _≡_ {A = ℕ} 0 1 = no-room (h ∙ placed-not out at xs short) in absurd (omega arith)
+  | inr fits ↦ (fits, same (h ∙ placed-fits out at xs fits))
+]
+  where
+    no-room : {n : ℕ} → _≡_ {A = Result ℕ Refusal} (Ok n) (Err NoRoom) → _≡_ {A = ℕ} 0 1
+    no-room e = cc
+
+    same : {n m : ℕ} → _≡_ {A = Result ℕ Refusal} (Ok n) (Ok m) → n ≡ m
+    same e = cc
+
+-- what stands up to the end of a piece that was laid
+pub over-front : (out : List ℕ) (at : ℕ) (xs : List ℕ) → at + length xs ≤ length out → take (at + length xs) (over out at xs) ≡ take at out ++ xs
+over-front out at xs h =
+    let front = length-take-le at out (omega arith) in
+    ap (take (at + length xs)) (over-fits out at xs h ∙ sym (append-assoc (take at out) xs (drop (at + length xs) out)))
+    ∙ take-at (take at out ++ xs) (drop (at + length xs) out) (at + length xs) (length-append (take at out) xs ∙ ap (λ n. n + length xs) front)

@@ -74,8 +74,8 @@ way-priced : (n : ℕ) (w : WayEntry) (p : ℕ) → goodWay n w ≡ true → isO
 way-priced n w p h k =
     cond-both (isOk (wayCheck n (priced w p))) (ltb (w .grade) 256)
     (then-kept (endsCheck n w) (endsCheck n w) _ _ (λ x e. e)
-     (λ x. then-kept (lossOf (w .letter) (w .metres)) (lossOf (w .letter) (w .metres)) _ _ (λ y e. e) (λ y q. k))
-     (cond-first (isOk (wayCheck n w)) (ltb (w .grade) 256) h))
+    (λ x. then-kept (lossOf (w .letter) (w .metres)) (lossOf (w .letter) (w .metres)) _ _ (λ y e. e) (λ y q. k))
+    (cond-first (isOk (wayCheck n w)) (ltb (w .grade) 256) h))
     (cond-second (isOk (wayCheck n w)) (ltb (w .grade) 256) h)
 
 pub ways-priced : (n : ℕ) (ws : List WayEntry) (i : ℕ) (w : WayEntry) (p : ℕ) → goodWays n ws ≡ true → nth ws i ≡ Some w → isOk (priceCheck p) ≡ true

@@ -1,4 +1,4 @@
 // Surveys of a house: the draft that is written and changed, and the sealed survey that is planned over.
-pub mod entry;
 pub mod draft;
+pub mod entry;
 pub mod sealed;

@@ -222,8 +222,13 @@ module _ (bs : List ℕ) (small : (i : ℕ) → getD bs i 0 < 256) where
       let taken = located-ok (addPlace c (q .0 .repeater)) at (r .0) (r .1) in
       let read = place-read (eqb (h .length) 0) at h (q .0) hd tag refl (q .1) in
       let entered = place-entered c (q .0 .repeater) (r .0) taken in
-      record { entry = ofRepeater (q .0 .repeater); next = q .0 .next; bytes = read .0; inside = read .1;
-        is = sym (ok-same (to phase.Places (q .0 .next) (r .0)) t (r .2)) ∙ ap (to phase.Places (q .0 .next)) entered }
+      record {
+        entry = ofRepeater (q .0 .repeater);
+        next = q .0 .next;
+        bytes = read .0;
+        inside = read .1;
+        is = sym (ok-same (to phase.Places (q .0 .next) (r .0)) t (r .2)) ∙ ap (to phase.Places (q .0 .next)) entered;
+      }
 
   step-way : (at : ℕ) (c : Contents) (h : Head) (t : Turned) → Headed at h → h .tag ≡ 3 → enterWay bs at h c ≡ Ok t
       → Step wayField at (λ w n. to phase.Ways n (withWays c (w ∷ []))) t
@@ -235,9 +240,14 @@ module _ (bs : List ℕ) (small : (i : ℕ) → getD bs i 0 < 256) where
       let same = ok-same (wayRecord (wayIn bs (at + 3)) (b .0)) (q .0) (b .2) in
       let bd = body-ok at h 12 (b .0) hd (b .1) in
       let read = subst (λ x. (drop at bs ≡ wayField (x .way) ++ drop (x .next) bs) × (x .next ≤ length bs)) same
-            (field at 3 12 (b .0) h (wayField (wayIn bs (at + 3))) hd bd tag (omega arith) (way-bytes at), bd .inside) in
-      record { entry = q .0 .way; next = q .0 .next; bytes = read .0; inside = read .1;
-        is = sym (ok-same (to phase.Ways (q .0 .next) (r .0)) t (r .2)) ∙ ap (to phase.Ways (q .0 .next)) entered }
+      (field at 3 12 (b .0) h (wayField (wayIn bs (at + 3))) hd bd tag (omega arith) (way-bytes at), bd .inside) in
+      record {
+        entry = q .0 .way;
+        next = q .0 .next;
+        bytes = read .0;
+        inside = read .1;
+        is = sym (ok-same (to phase.Ways (q .0 .next) (r .0)) t (r .2)) ∙ ap (to phase.Ways (q .0 .next)) entered;
+      }
 
   step-edition : (at : ℕ) (c : Contents) (h : Head) (t : Turned) → Headed at h → h .tag ≡ 1 → enterEdition bs at h c ≡ Ok t
       → Step (λ (u : Unit {0}). headField) at (λ u n. to phase.Places n c) t
@@ -247,10 +257,13 @@ module _ (bs : List ℕ) (small : (i : ℕ) → getD bs i 0 < 256) where
       let one = if-ok (eqb (twoAt bs (at + 3)) 1) (Ok (b .0)) (record { refusal = WrongEdition; place = at }) (q .0) (b .2) in
       let bd = body-ok at h 2 (b .0) hd (b .1) in
       let same = ok-same (b .0) (q .0) (one .1) in
-      record { entry = tt; next = b .0;
+      record {
+        entry = tt;
+        next = b .0;
         bytes = field at 1 2 (b .0) h headField hd bd tag (omega arith) (λ f. edition-bytes at f (eqb-true (twoAt bs (at + 3)) 1 (one .0)));
         inside = bd .inside;
-        is = sym (ok-same (to phase.Places (q .0) c) t (q .2)) ∙ ap (λ n. to phase.Places n c) (sym same) }
+        is = sym (ok-same (to phase.Places (q .0) c) t (q .2)) ∙ ap (λ n. to phase.Places n c) (sym same);
+      }
 
   step-end : (at : ℕ) (c : Contents) (h : Head) (t : Turned) → Headed at h → h .tag ≡ 4 → enterEnd bs at h c ≡ Ok t
       → (drop at bs ≡ endField) × ((n : ℕ) × (t ≡ to phase.Ended n c))
@@ -258,9 +271,10 @@ module _ (bs : List ℕ) (small : (i : ℕ) → getD bs i 0 < 256) where
       let q = then-ok (endAt bs at h) (λ next. Ok (to phase.Ended next c)) t e in
       let b = then-ok (bodyAt bs at h 0) (λ next. cond (ltb next (length bs)) (fault BytesBehind next) (Ok next)) (q .0) (q .1) in
       let last = unless-ok (ltb (b .0) (length bs)) (Ok (b .0)) (record { refusal = BytesBehind; place = b .0 }) (q .0) (b .2) in
-      let bd = body-ok at h 0 (b .0) hd (b .1) in
-      (field at 4 0 (b .0) h endField hd bd tag (omega arith) (end-bytes at) ∙ ap (λ xs. endField ++ xs) (drop-all (b .0) bs (ltb-false (b .0) (length bs) (last .0))),
-       (q .0, sym (ok-same (to phase.Ended (q .0) c) t (q .2))))
+      let bd = body-ok at h 0 (b .0) hd (b .1) in (
+        field at 4 0 (b .0) h endField hd bd tag (omega arith) (end-bytes at) ∙ ap (λ xs. endField ++ xs) (drop-all (b .0) bs (ltb-false (b .0) (length bs) (last .0))),
+        (q .0, sym (ok-same (to phase.Ended (q .0) c) t (q .2))),
+      )
 
   -- one turn of the walk
   walk-step : (n : ℕ) (s : State) (c d : Contents) → ended (s .phase) ≡ false → walk (suc n) bs s c ≡ Ok d
@@ -319,12 +333,14 @@ module _ (bs : List ℕ) (small : (i : ℕ) → getD bs i 0 < 256) where
       let m = turned (state phase.Ways at) c (q .0) (q .1) in
       let h = m .0 in
       elim (tag-is (h .tag) 3 (enterWay bs at h c) (cond (eqb (h .tag) 4) (enterEnd bs at h c) (fault WrongTag at)) (q .0) (m .2)) [
-        inl w ↦
-          let s = step-way at c h (q .0) (m .1) (w .0) (w .1) in
-          rest-more at c d (q .0) s (rest-ways n (s .next) (withWays c (s .entry ∷ [])) d (ap (λ x. walk n bs (x .state) (x .entered)) (sym (s .is)) ∙ q .2))
-      | inr other ↦ elim (tag-is (h .tag) 4 (enterEnd bs at h c) (fault WrongTag at) (q .0) other) [
-          inl x ↦ rest-end n at c d h (q .0) (m .1) (x .0) (x .1) (q .2)
-        | inr wrong ↦ absurd (never (record { refusal = WrongTag; place = at }) (q .0) wrong) ] ]
+        | inl w ↦
+            let s = step-way at c h (q .0) (m .1) (w .0) (w .1) in
+            rest-more at c d (q .0) s (rest-ways n (s .next) (withWays c (s .entry ∷ [])) d (ap (λ x. walk n bs (x .state) (x .entered)) (sym (s .is)) ∙ q .2))
+        | inr other ↦ elim (tag-is (h .tag) 4 (enterEnd bs at h c) (fault WrongTag at) (q .0) other) [
+          | inl x ↦ rest-end n at c d h (q .0) (m .1) (x .0) (x .1) (q .2)
+          | inr wrong ↦ absurd (never (record { refusal = WrongTag; place = at }) (q .0) wrong)
+        ]
+      ]
 
   -- with no place more, the rest is all
   body-rest : (at : ℕ) (c d : Contents) → Rest at c d → Body at c d
@@ -342,7 +358,7 @@ module _ (bs : List ℕ) (small : (i : ℕ) → getD bs i 0 < 256) where
     ways = r .ways;
     is = r .is ∙ ap (λ x. record { places = x; ways = c .ways ++ r .ways }) (append-assoc (c .places) (s .entry ∷ []) (r .places));
     bytes = s .bytes ∙ ap (λ xs. placeField (s .entry) ++ xs) (r .bytes)
-      ∙ sym (append-assoc (placeField (s .entry)) (joined placeField (r .places)) (joined wayField (r .ways) ++ endField));
+        ∙ sym (append-assoc (placeField (s .entry)) (joined placeField (r .places)) (joined wayField (r .ways) ++ endField));
   }
 
   body-places : (n at : ℕ) (c d : Contents) → walk n bs (state phase.Places at) c ≡ Ok d → Body at c d
@@ -353,16 +369,19 @@ module _ (bs : List ℕ) (small : (i : ℕ) → getD bs i 0 < 256) where
       let h = m .0 in
       let after-place = cond (eqb (h .tag) 3) (enterWay bs at h c) (cond (eqb (h .tag) 4) (enterEnd bs at h c) (fault WrongTag at)) in
       elim (tag-is (h .tag) 2 (enterPlace bs at h c) after-place (q .0) (m .2)) [
-        inl p ↦
-          let s = step-place at c h (q .0) (m .1) (p .0) (p .1) in
-          body-more at c d (q .0) s (body-places n (s .next) (withPlaces c (s .entry ∷ [])) d (ap (λ x. walk n bs (x .state) (x .entered)) (sym (s .is)) ∙ q .2))
-      | inr other ↦ elim (tag-is (h .tag) 3 (enterWay bs at h c) (cond (eqb (h .tag) 4) (enterEnd bs at h c) (fault WrongTag at)) (q .0) other) [
-          inl w ↦
-            let s = step-way at c h (q .0) (m .1) (w .0) (w .1) in
-            body-rest at c d (rest-more at c d (q .0) s (rest-ways n (s .next) (withWays c (s .entry ∷ [])) d (ap (λ x. walk n bs (x .state) (x .entered)) (sym (s .is)) ∙ q .2)))
-        | inr last ↦ elim (tag-is (h .tag) 4 (enterEnd bs at h c) (fault WrongTag at) (q .0) last) [
-            inl x ↦ body-rest at c d (rest-end n at c d h (q .0) (m .1) (x .0) (x .1) (q .2))
-          | inr wrong ↦ absurd (never (record { refusal = WrongTag; place = at }) (q .0) wrong) ] ] ]
+        | inl p ↦
+            let s = step-place at c h (q .0) (m .1) (p .0) (p .1) in
+            body-more at c d (q .0) s (body-places n (s .next) (withPlaces c (s .entry ∷ [])) d (ap (λ x. walk n bs (x .state) (x .entered)) (sym (s .is)) ∙ q .2))
+        | inr other ↦ elim (tag-is (h .tag) 3 (enterWay bs at h c) (cond (eqb (h .tag) 4) (enterEnd bs at h c) (fault WrongTag at)) (q .0) other) [
+          | inl w ↦
+              let s = step-way at c h (q .0) (m .1) (w .0) (w .1) in
+              body-rest at c d (rest-more at c d (q .0) s (rest-ways n (s .next) (withWays c (s .entry ∷ [])) d (ap (λ x. walk n bs (x .state) (x .entered)) (sym (s .is)) ∙ q .2)))
+          | inr last ↦ elim (tag-is (h .tag) 4 (enterEnd bs at h c) (fault WrongTag at) (q .0) last) [
+            | inl x ↦ body-rest at c d (rest-end n at c d h (q .0) (m .1) (x .0) (x .1) (q .2))
+            | inr wrong ↦ absurd (never (record { refusal = WrongTag; place = at }) (q .0) wrong)
+          ]
+        ]
+      ]
 
   whole : (d : Contents) → decode bs ≡ Ok d → bs ≡ fileOf d
   whole d e =
@@ -370,11 +389,12 @@ module _ (bs : List ℕ) (small : (i : ℕ) → getD bs i 0 < 256) where
       let m = turned start noContents (q .0) (q .1) in
       let h = m .0 in
       elim (tag-is (h .tag) 1 (enterEdition bs 0 h noContents) (fault WrongTag 0) (q .0) (m .2)) [
-        inl x ↦
-          let s = step-edition 0 noContents h (q .0) (m .1) (x .0) (x .1) in
-          let b = body-places (length bs) (s .next) noContents d (ap (λ x. walk (length bs) bs (x .state) (x .entered)) (sym (s .is)) ∙ q .2) in
-          s .bytes ∙ ap (λ xs. headField ++ xs) (b .bytes) ∙ ap fileOf (sym (b .is))
-      | inr wrong ↦ absurd (never (record { refusal = WrongTag; place = 0 }) (q .0) wrong) ]
+        | inl x ↦
+            let s = step-edition 0 noContents h (q .0) (m .1) (x .0) (x .1) in
+            let b = body-places (length bs) (s .next) noContents d (ap (λ x. walk (length bs) bs (x .state) (x .entered)) (sym (s .is)) ∙ q .2) in
+            s .bytes ∙ ap (λ xs. headField ++ xs) (b .bytes) ∙ ap fileOf (sym (b .is))
+        | inr wrong ↦ absurd (never (record { refusal = WrongTag; place = 0 }) (q .0) wrong)
+      ]
 
 -- a list of bytes that is accepted is the file of what it reads as
 pub only-file : (bs : List ℕ) (d : Contents) → Bytes bs → decode bs ≡ Ok d → bs ≡ fileOf d

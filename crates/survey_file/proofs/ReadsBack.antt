@@ -128,7 +128,7 @@ turn-edition bs ys c h =
     let one : twoAt bs 3 ≡ 1 = omega arith in
     turn-by bs start c (head 1 2) (head-here bs 0 1 2 (0 ∷ 1 ∷ ys) h)
     ∙ ap (λ r. then (then r (λ next. cond (eqb (twoAt bs 3) 1) (Ok next) (fault WrongEdition 0))) (λ next. Ok (to phase.Places next c)))
-      (body-here bs 0 1 2 (0 ∷ 1 ∷ ys) h (omega arith))
+    (body-here bs 0 1 2 (0 ∷ 1 ∷ ys) h (omega arith))
     ∙ ap (λ n. then (cond (eqb n 1) (Ok 5) (fault WrongEdition 0)) (λ next. Ok (to phase.Places next c))) one
 
 -- what is read of a place, and what the draft makes of it
@@ -152,7 +152,7 @@ turn-place bs at ys c (Some p) next h n few good =
     let behind : at + 3 + 4 ≡ next = omega arith in
     place-entered bs at c (head 2 4) (Some p) next refl (head-here bs at 2 4 (p / 16777216 ∷ p / 65536 % 256 ∷ p / 256 % 256 ∷ p % 256 ∷ ys) h)
     (ap (λ x. then x (λ m. Ok (record { repeater = Some (fourAt bs (at + 3)); next = m }))) body
-     ∙ ap (λ x. Ok (record { repeater = Some x; next = at + 3 + 4 })) price ∙ ap (λ m. Ok (record { repeater = Some p; next = m })) behind)
+    ∙ ap (λ x. Ok (record { repeater = Some x; next = at + 3 + 4 })) price ∙ ap (λ m. Ok (record { repeater = Some p; next = m })) behind)
     few good
 
 -- a way may follow places and ways alike, and so may the end
@@ -292,4 +292,4 @@ reads-back c few good few-ways good-ways =
     let same : 0 + length (c .places) ≡ length (c .places) = omega arith in
     walk-on (length bs) bs start noContents (to phase.Places 5 noContents) refl (turn-edition bs rest noContents h)
     ∙ reads-places (c .places) (c .ways) (length bs) bs 5 noContents (past bs 0 headField rest 5 h refl) (omega arith) (omega arith) good (omega arith)
-      (ap (λ k. goodWays k (c .ways)) same ∙ good-ways)
+    (ap (λ k. goodWays k (c .ways)) same ∙ good-ways)

@@ -35,9 +35,15 @@ pub(crate) fn read_head(bytes: &[u8], at: usize) -> Result<Head, Fault>
     ensures { λ r. ⌜ r ≡ headAt (now (bytes .entry)) at ⌝ }
 {
     if bytes.len() - at < 3 {
-        return Err(Fault { refusal: Refusal::CutShort, place: at });
+        return Err(Fault {
+            refusal: Refusal::CutShort,
+            place: at,
+        });
     }
-    Ok(Head { tag: bytes[at], length: two_at(bytes, at + 1) as usize })
+    Ok(Head {
+        tag: bytes[at],
+        length: two_at(bytes, at + 1) as usize,
+    })
 }
 
 // Whether the field has the length that is wanted, and its body is there; where the next field begins.
@@ -46,10 +52,16 @@ pub(crate) fn check_body(bytes: &[u8], at: usize, head: Head, wanted: usize) -> 
     ensures { λ r. ⌜ r ≡ bodyAt (now (bytes .entry)) at head wanted ⌝ }
 {
     if head.length != wanted {
-        return Err(Fault { refusal: Refusal::WrongLength, place: at });
+        return Err(Fault {
+            refusal: Refusal::WrongLength,
+            place: at,
+        });
     }
     if bytes.len() - at - 3 < wanted {
-        return Err(Fault { refusal: Refusal::CutShort, place: at });
+        return Err(Fault {
+            refusal: Refusal::CutShort,
+            place: at,
+        });
     }
     Ok(at + 3 + wanted)
 }

@@ -66,7 +66,14 @@ fn enter_place(bytes: &[u8], at: usize, head: Head, draft: &mut Draft) -> Result
 {
     let place = read_place(bytes, at, head)?;
     let entered = draft.add_place(place.repeater);
-    moved(entered, at, State { phase: Phase::Places, at: place.next })
+    moved(
+        entered,
+        at,
+        State {
+            phase: Phase::Places,
+            at: place.next,
+        },
+    )
 }
 
 // The way of a field is entered into the draft.
@@ -78,7 +85,14 @@ fn enter_way(bytes: &[u8], at: usize, head: Head, draft: &mut Draft) -> Result<S
 {
     let record = read_way(bytes, at, head)?;
     let entered = draft.add_way(record.way);
-    moved(entered, at, State { phase: Phase::Ways, at: record.next })
+    moved(
+        entered,
+        at,
+        State {
+            phase: Phase::Ways,
+            at: record.next,
+        },
+    )
 }
 
 // The edition is read, and places may follow.
@@ -88,7 +102,10 @@ fn enter_edition(bytes: &[u8], at: usize, head: Head) -> Result<State, Fault>
     ensures goes { λ r. ⌜ made r (λ t. (at < t .at) × (t .at ≤ length (now (bytes .entry)))) ⌝ }
 {
     let next = read_edition(bytes, at, head)?;
-    Ok(State { phase: Phase::Places, at: next })
+    Ok(State {
+        phase: Phase::Places,
+        at: next,
+    })
 }
 
 // The end is read, and nothing may follow.
@@ -98,7 +115,10 @@ fn enter_end(bytes: &[u8], at: usize, head: Head) -> Result<State, Fault>
     ensures goes { λ r. ⌜ made r (λ t. (at < t .at) × (t .at ≤ length (now (bytes .entry)))) ⌝ }
 {
     let next = read_end(bytes, at, head)?;
-    Ok(State { phase: Phase::Ended, at: next })
+    Ok(State {
+        phase: Phase::Ended,
+        at: next,
+    })
 }
 
 // One field.
@@ -117,7 +137,10 @@ fn turn(bytes: &[u8], s: State, draft: &mut Draft) -> Result<State, Fault>
         (Phase::Places, 4) => enter_end(bytes, at, head),
         (Phase::Ways, 3) => enter_way(bytes, at, head, draft),
         (Phase::Ways, 4) => enter_end(bytes, at, head),
-        _ => Err(Fault { refusal: Refusal::WrongTag, place: at }),
+        _ => Err(Fault {
+            refusal: Refusal::WrongTag,
+            place: at,
+        }),
     }
 }
 
@@ -127,7 +150,10 @@ fn fill(bytes: &[u8], draft: &mut Draft) -> Result<(), Fault>
     ensures answer { λ r. ⌜ r ≡ given tt (decode (now (bytes .entry))) ⌝ }
     ensures draft { λ r. ⌜ made r (λ _. decode (now (bytes .entry)) ≡ Ok (contents (now (draft .exit)))) ⌝ }
 {
-    let mut s = State { phase: Phase::Head, at: 0 };
+    let mut s = State {
+        phase: Phase::Head,
+        at: 0,
+    };
     while !is_ended(s.phase) {
         s = turn(bytes, s, draft)?;
     }

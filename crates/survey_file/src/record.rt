@@ -33,7 +33,10 @@ pub(crate) fn read_edition(bytes: &[u8], at: usize, head: Head) -> Result<usize,
 {
     let next = check_body(bytes, at, head, 2)?;
     if two_at(bytes, at + 3) != 1 {
-        return Err(Fault { refusal: Refusal::WrongEdition, place: at });
+        return Err(Fault {
+            refusal: Refusal::WrongEdition,
+            place: at,
+        });
     }
     Ok(next)
 }
@@ -45,11 +48,17 @@ pub(crate) fn read_place(bytes: &[u8], at: usize, head: Head) -> Result<PlaceRec
     ensures goes { λ r. ⌜ made r (λ x. (at < x .next) × (x .next ≤ length (now (bytes .entry)))) ⌝ }
 {
     if head.length == 0 {
-        return Ok(PlaceRecord { repeater: None, next: at + 3 });
+        return Ok(PlaceRecord {
+            repeater: None,
+            next: at + 3,
+        });
     }
     let next = check_body(bytes, at, head, 4)?;
     let price = four_at(bytes, at + 3);
-    Ok(PlaceRecord { repeater: Some(price), next })
+    Ok(PlaceRecord {
+        repeater: Some(price),
+        next,
+    })
 }
 
 // A way has twelve bytes: from, to, letter, grade, metres and price.
@@ -65,7 +74,17 @@ pub(crate) fn read_way(bytes: &[u8], at: usize, head: Head) -> Result<WayRecord,
     let grade = bytes[at + 8];
     let metres = two_at(bytes, at + 9);
     let price = four_at(bytes, at + 11);
-    Ok(WayRecord { way: WayEntry { from, to, letter, grade, metres, price }, next })
+    Ok(WayRecord {
+        way: WayEntry {
+            from,
+            to,
+            letter,
+            grade,
+            metres,
+            price,
+        },
+        next,
+    })
 }
 
 // The end has no body, and nothing stands behind it; where the file ends.
@@ -75,7 +94,10 @@ pub(crate) fn read_end(bytes: &[u8], at: usize, head: Head) -> Result<usize, Fau
 {
     let next = check_body(bytes, at, head, 0)?;
     if next < bytes.len() {
-        return Err(Fault { refusal: Refusal::BytesBehind, place: next });
+        return Err(Fault {
+            refusal: Refusal::BytesBehind,
+            place: next,
+        });
     }
     Ok(next)
 }

@@ -72,7 +72,10 @@ impl Draft {
     {
         let places = Vec::with_capacity(heap, 256)?;
         let ways = Vec::with_capacity(heap, 1024)?;
-        Ok(Draft { places, table: WayTable { ways } })
+        Ok(Draft {
+            places,
+            table: WayTable { ways },
+        })
     }
 
     // The draft is empty again.

@@ -28,13 +28,21 @@ impl Draft {
     pub fn place(&self, number: usize) -> Option<Place>
         ensures { λ r. ⌜ r ≡ nth (contents (now (self .entry)) .places) number ⌝ }
     {
-        if number < self.places.len() { Some(self.places[number]) } else { None }
+        if number < self.places.len() {
+            Some(self.places[number])
+        } else {
+            None
+        }
     }
 
     // A way by its number.
     pub fn way(&self, number: usize) -> Option<WayEntry>
         ensures { λ r. ⌜ r ≡ nth (contents (now (self .entry)) .ways) number ⌝ }
     {
-        if number < self.table.ways.len() { Some(self.table.ways[number]) } else { None }
+        if number < self.table.ways.len() {
+            Some(self.table.ways[number])
+        } else {
+            None
+        }
     }
 }

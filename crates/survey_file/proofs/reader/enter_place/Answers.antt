@@ -16,9 +16,9 @@ returns c =
     let record-at = placeAt (c .args .bytes .now) (c .args .at) (c .args .head) in
     record {
       state = state-is (λ x. addPlace (contents (c .args .draft .now)) (x .repeater)) (λ x. x .next) Places (c .args .at) record-at (c .in-Continue-place .place) _ (c .add-place-entered .result) (c .moved .result)
-        (read .value) (c .add-place-entered .ensures .answer) (c .moved .ensures);
+          (read .value) (c .add-place-entered .ensures .answer) (c .moved .ensures);
       draft = contents-is (λ x. addPlace (contents (c .args .draft .now)) (x .repeater)) (λ x. x .next) Places (c .args .at) before (contents (c .add-place-entered .last .self)) record-at (c .in-Continue-place .place)
-        (read .value) (c .add-place-entered .ensures .after);
+          (read .value) (c .add-place-entered .ensures .after);
       goes = goes-on (λ t. (c .args .at < t .at) × (t .at ≤ length (c .args .bytes .now))) _ (located (c .add-place-entered .result) (c .args .at)) (c .moved .result)
-        (c .moved .ensures) (read .goes);
+          (c .moved .ensures) (read .goes);
     }

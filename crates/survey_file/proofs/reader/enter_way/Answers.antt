@@ -16,9 +16,9 @@ returns c =
     let record-at = wayAt (c .args .bytes .now) (c .args .at) (c .args .head) in
     record {
       state = state-is (λ x. addWay (contents (c .args .draft .now)) (x .way)) (λ x. x .next) Ways (c .args .at) record-at (c .in-Continue-record .record) _ (c .add-way-entered .result) (c .moved .result)
-        (read .value) (c .add-way-entered .ensures .answer) (c .moved .ensures);
+          (read .value) (c .add-way-entered .ensures .answer) (c .moved .ensures);
       draft = contents-is (λ x. addWay (contents (c .args .draft .now)) (x .way)) (λ x. x .next) Ways (c .args .at) before (contents (c .add-way-entered .last .self)) record-at (c .in-Continue-record .record)
-        (read .value) (c .add-way-entered .ensures .after);
+          (read .value) (c .add-way-entered .ensures .after);
       goes = goes-on (λ t. (c .args .at < t .at) × (t .at ≤ length (c .args .bytes .now))) _ (located (c .add-way-entered .result) (c .args .at)) (c .moved .result)
-        (c .moved .ensures) (read .goes);
+          (c .moved .ensures) (read .goes);
     }

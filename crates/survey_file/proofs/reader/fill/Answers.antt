@@ -22,7 +22,7 @@ pub returns-in-Break-s : need.returns-in-Break-s
 returns-in-Break-s c =
     let p = err-from-errBy (c .from-residual .result) (c .from-residual .ensures .1) in
     let refused = after-err (c .args .bytes .now) (c .loop-s .s) (contents (c .loop-s .draft)) _
-          (c .loop-s .inv) (sym (c .is-ended .ensures) ∙ c .loop-s-test .taken) (c .in-Break-s .ensures tt .state) in
+    (c .loop-s .inv) (sym (c .is-ended .ensures) ∙ c .loop-s-test .taken) (c .in-Break-s .ensures tt .state) in
     record {
       answer = p .1 ∙ ap Err (p .2) ∙ ap (given tt) (sym refused);
       draft = made-from-err (c .from-residual .result) _ (c .from-residual .ensures .0);

@@ -16,14 +16,15 @@ loop-i-again c =
     let places = sealedContents (c .args .survey .now) .places in
     let before = joined placeField (take (c .loop-i .i) places) in
     elim (c .match-place .came) [
-      in-Some w ↦
-        let p = w .in-Some .place in
-        let more = ap length (joined-next placeField places (c .loop-i .i) p (w .in-Some .ensures tt)) ∙ length-append before (placeField p) in
-        let few = place-long (p .repeater) in
-        (omega (arith, w .length-is, w .place-length-length .ensures, c .loop-i .inv .0), omega (arith, w .length-is, w .place-length-length .ensures, c .loop-i .inv .1))
-    | in-rest w ↦
-        let same = ap length (joined-past placeField places (c .loop-i .i) (w .in-rest .ensures tt)) in
-        (omega (arith, w .length-is, c .loop-i .inv .0), omega (arith, w .length-is, c .loop-i .inv .1)) ]
+      | in-Some w ↦
+          let p = w .in-Some .place in
+          let more = ap length (joined-next placeField places (c .loop-i .i) p (w .in-Some .ensures tt)) ∙ length-append before (placeField p) in
+          let few = place-long (p .repeater) in
+          (omega (arith, w .length-is, w .place-length-length .ensures, c .loop-i .inv .0), omega (arith, w .length-is, w .place-length-length .ensures, c .loop-i .inv .1))
+      | in-rest w ↦
+          let same = ap length (joined-past placeField places (c .loop-i .i) (w .in-rest .ensures tt)) in
+          (omega (arith, w .length-is, c .loop-i .inv .0), omega (arith, w .length-is, c .loop-i .inv .1))
+    ]
 
 pub returns : need.returns
 returns c =

@@ -20,26 +20,27 @@ pub returns-in-Break-at : need.returns-in-Break-at
 returns-in-Break-at c =
     let entries = sealedContents (c .args .survey .now) .places in
     absurd (not-refused placeField entries (c .args .out .now) (c .args .start) (c .loop-i .i) (c .loop-i .at) (c .loop-i .out) (c .pre) (c .loop-i .inv)
-      (c .in-Some .place) _ (c .in-Some .ensures tt) (c .in-Break-at .ensures tt .answer))
+    (c .in-Some .place) _ (c .in-Some .ensures tt) (c .in-Break-at .ensures tt .answer))
 
 pub loop-i-again : need.loop-i-again
 loop-i-again c =
     let entries = sealedContents (c .args .survey .now) .places in
     elim (c .match-place .came) [
-      in-Some·in-Continue-at w ↦
-        let told = w .in-Continue-at .ensures tt in
-        put-as placeField entries (c .args .out .now) (c .args .start) (c .loop-i .i + 1) (w .in-Continue-at .at) (c .match-place .at) (w .put-place .last .out) (c .match-place .out) (w .at-is) (w .out-is)
-        (put-more placeField entries (c .args .out .now) (c .args .start) (c .loop-i .i) (c .loop-i .at) (c .loop-i .out) (c .pre) (c .loop-i .inv)
-         (w .in-Some .place) (w .in-Continue-at .at) (w .put-place .last .out) (w .in-Some .ensures tt) (told .answer) (told .after))
-    | in-rest w ↦
-        put-as placeField entries (c .args .out .now) (c .args .start) (c .loop-i .i + 1) (c .loop-i .at) (c .match-place .at) (c .loop-i .out) (c .match-place .out) (w .at-is) (w .out-is)
-        (put-past placeField entries (c .args .out .now) (c .args .start) (c .loop-i .i) (c .loop-i .at) (c .loop-i .out) (c .pre) (c .loop-i .inv) (w .in-rest .ensures tt)) ]
+      | in-Some·in-Continue-at w ↦
+          let told = w .in-Continue-at .ensures tt in
+          put-as placeField entries (c .args .out .now) (c .args .start) (c .loop-i .i + 1) (w .in-Continue-at .at) (c .match-place .at) (w .put-place .last .out) (c .match-place .out) (w .at-is) (w .out-is)
+          (put-more placeField entries (c .args .out .now) (c .args .start) (c .loop-i .i) (c .loop-i .at) (c .loop-i .out) (c .pre) (c .loop-i .inv)
+          (w .in-Some .place) (w .in-Continue-at .at) (w .put-place .last .out) (w .in-Some .ensures tt) (told .answer) (told .after))
+      | in-rest w ↦
+          put-as placeField entries (c .args .out .now) (c .args .start) (c .loop-i .i + 1) (c .loop-i .at) (c .match-place .at) (c .loop-i .out) (c .match-place .out) (w .at-is) (w .out-is)
+          (put-past placeField entries (c .args .out .now) (c .args .start) (c .loop-i .i) (c .loop-i .at) (c .loop-i .out) (c .pre) (c .loop-i .inv) (w .in-rest .ensures tt))
+    ]
 
 pub returns : need.returns
 returns c =
     let entries = sealedContents (c .args .survey .now) .places in
     let all = put-all placeField entries (c .args .out .now) (c .args .start) (c .loop-i .i) (c .loop-i .at) (c .loop-i .out) (c .pre) (c .loop-i .inv)
-          (omega (arith, c .places-i-end .ensures .value, c .loop-i-test .left)) in
+    (omega (arith, c .places-i-end .ensures .value, c .loop-i-test .left)) in
     let whole = take-all (length entries) entries (omega arith) in
     record {
       answer = ap Ok (all .next ∙ ap (λ es. c .args .start + length (joined placeField es)) whole);

@@ -22,26 +22,27 @@ pub returns-in-Break-at : need.returns-in-Break-at
 returns-in-Break-at c =
     let entries = sealedContents (c .args .survey .now) .ways in
     absurd (not-refused wayField entries (c .args .out .now) (c .args .start) (c .loop-i .i) (c .loop-i .at) (c .loop-i .out) (c .pre) (c .loop-i .inv)
-      (c .in-Some .way) _ (c .in-Some .ensures tt) (c .in-Break-at .ensures tt .answer))
+    (c .in-Some .way) _ (c .in-Some .ensures tt) (c .in-Break-at .ensures tt .answer))
 
 pub loop-i-again : need.loop-i-again
 loop-i-again c =
     let entries = sealedContents (c .args .survey .now) .ways in
     elim (c .match-way .came) [
-      in-Some·in-Continue-at w ↦
-        let told = w .in-Continue-at .ensures tt in
-        put-as wayField entries (c .args .out .now) (c .args .start) (c .loop-i .i + 1) (w .in-Continue-at .at) (c .match-way .at) (w .put-way .last .out) (c .match-way .out) (w .at-is) (w .out-is)
-        (put-more wayField entries (c .args .out .now) (c .args .start) (c .loop-i .i) (c .loop-i .at) (c .loop-i .out) (c .pre) (c .loop-i .inv)
-         (w .in-Some .way) (w .in-Continue-at .at) (w .put-way .last .out) (w .in-Some .ensures tt) (told .answer) (told .after))
-    | in-rest w ↦
-        put-as wayField entries (c .args .out .now) (c .args .start) (c .loop-i .i + 1) (c .loop-i .at) (c .match-way .at) (c .loop-i .out) (c .match-way .out) (w .at-is) (w .out-is)
-        (put-past wayField entries (c .args .out .now) (c .args .start) (c .loop-i .i) (c .loop-i .at) (c .loop-i .out) (c .pre) (c .loop-i .inv) (w .in-rest .ensures tt)) ]
+      | in-Some·in-Continue-at w ↦
+          let told = w .in-Continue-at .ensures tt in
+          put-as wayField entries (c .args .out .now) (c .args .start) (c .loop-i .i + 1) (w .in-Continue-at .at) (c .match-way .at) (w .put-way .last .out) (c .match-way .out) (w .at-is) (w .out-is)
+          (put-more wayField entries (c .args .out .now) (c .args .start) (c .loop-i .i) (c .loop-i .at) (c .loop-i .out) (c .pre) (c .loop-i .inv)
+          (w .in-Some .way) (w .in-Continue-at .at) (w .put-way .last .out) (w .in-Some .ensures tt) (told .answer) (told .after))
+      | in-rest w ↦
+          put-as wayField entries (c .args .out .now) (c .args .start) (c .loop-i .i + 1) (c .loop-i .at) (c .match-way .at) (c .loop-i .out) (c .match-way .out) (w .at-is) (w .out-is)
+          (put-past wayField entries (c .args .out .now) (c .args .start) (c .loop-i .i) (c .loop-i .at) (c .loop-i .out) (c .pre) (c .loop-i .inv) (w .in-rest .ensures tt))
+    ]
 
 pub returns : need.returns
 returns c =
     let entries = sealedContents (c .args .survey .now) .ways in
     let all = put-all wayField entries (c .args .out .now) (c .args .start) (c .loop-i .i) (c .loop-i .at) (c .loop-i .out) (c .pre) (c .loop-i .inv)
-          (omega (arith, c .ways-i-end .ensures .value, c .loop-i-test .left)) in
+    (omega (arith, c .ways-i-end .ensures .value, c .loop-i-test .left)) in
     let whole = take-all (length entries) entries (omega arith) in
     record {
       answer = ap Ok (all .next ∙ ap (λ es. c .args .start + length (joined wayField es)) whole);

@@ -24,7 +24,22 @@ checked c =
 pub ghost-self : need.ghost-self
 ghost-self c =
     let before = c .args .self .now in
-    let items : vec-items (c .push-reserved .last .self) ≡ vec-items (before .table .ways) ++ c .args .way ∷ [] = c .push-reserved .ensures .items in
-    (search needs, (search needs, (search needs, (search needs, (search needs,
-    (ap (goodWays (vec-len (before .places))) items ∙ ways-push _ (vec-items (before .table .ways)) (c .args .way) (before .«good_ways») (checked c),
-    tt))))))
+    let items : vec-items (c .push-reserved .last .self) ≡ vec-items (before .table .ways) ++ c .args .way ∷ [] = c .push-reserved .ensures .items in (
+      search needs,
+      (
+        search needs,
+        (
+          search needs,
+          (
+            search needs,
+            (
+              search needs,
+              (
+                ap (goodWays (vec-len (before .places))) items ∙ ways-push _ (vec-items (before .table .ways)) (c .args .way) (before .«good_ways») (checked c),
+                tt,
+              ),
+            ),
+          ),
+        ),
+      ),
+    )

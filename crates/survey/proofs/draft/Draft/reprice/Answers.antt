@@ -25,10 +25,25 @@ lent d i w told = lent-at (vec-items (d .table .ways)) (vec-len (d .table .ways)
 pub ghost-self : need.ghost-self
 ghost-self c =
     let before = c .args .self .now in
-    let at = lent before (c .args .number) (c .in-Some .way .now) (c .in-Some .ensures tt .finds) in
-    (search needs, (search needs, (search needs, (search needs, (search needs,
-    (ap (goodWays (vec-len (before .places))) (set-same (vec-items (before .table .ways)) (c .args .number) (c .in-Some .way .now) at) ∙ before .«good_ways»,
-    tt))))))
+    let at = lent before (c .args .number) (c .in-Some .way .now) (c .in-Some .ensures tt .finds) in (
+      search needs,
+      (
+        search needs,
+        (
+          search needs,
+          (
+            search needs,
+            (
+              search needs,
+              (
+                ap (goodWays (vec-len (before .places))) (set-same (vec-items (before .table .ways)) (c .args .number) (c .in-Some .way .now) at) ∙ before .«good_ways»,
+                tt,
+              ),
+            ),
+          ),
+        ),
+      ),
+    )
 
 pub returns-in-Break-check-price : need.returns-in-Break-check-price
 returns-in-Break-check-price c =
@@ -39,16 +54,31 @@ returns-in-Break-check-price c =
     record {
       answer = p .1 ∙ ap Err (p .2) ∙ ap (given tt) (sym dear);
       after = ap (λ ws. record { places = vec-items (before .places); ways = ws }) (set-same (vec-items (before .table .ways)) (c .args .number) (c .in-Some .way .now) at)
-        ∙ ap (left (contents before)) (sym dear);
+          ∙ ap (left (contents before)) (sym dear);
     }
 
 pub ghost-self-in-Some : need.ghost-self-in-Some
 ghost-self-in-Some c =
     let before = c .args .self .now in
-    let at = lent before (c .args .number) (c .in-Some .way .now) (c .in-Some .ensures tt .finds) in
-    (search needs, (search needs, (search needs, (search needs, (search needs,
-    (ways-priced (vec-len (before .places)) (vec-items (before .table .ways)) (c .args .number) (c .in-Some .way .now) (c .args .price) (before .«good_ways») at (ap isOk (sym (c .in-Continue-check-price .ensures tt))),
-    tt))))))
+    let at = lent before (c .args .number) (c .in-Some .way .now) (c .in-Some .ensures tt .finds) in (
+      search needs,
+      (
+        search needs,
+        (
+          search needs,
+          (
+            search needs,
+            (
+              search needs,
+              (
+                ways-priced (vec-len (before .places)) (vec-items (before .table .ways)) (c .args .number) (c .in-Some .way .now) (c .args .price) (before .«good_ways») at (ap isOk (sym (c .in-Continue-check-price .ensures tt))),
+                tt,
+              ),
+            ),
+          ),
+        ),
+      ),
+    )
 
 pub returns-in-Continue-check-price : need.returns-in-Continue-check-price
 returns-in-Continue-check-price c =
