@@ -2,7 +2,8 @@
 use mathlib.Core.Path.{_≡_, refl, sym, ap, _∙_}
 use mathlib.Core.Bool.{Bool, true, false, cond}
 use mathlib.Core.List.{List, [], _∷_, _++_}
-use Prim.Native.Nat.{ℕ, zero, suc, _+_, _<_, _≤_}
+use Prim.Native.Nat.{ℕ, zero, suc, _+_, _*_, _/_, _<_, _≤_}
+use native.Mathlib.Nat.{mul-le-mul}
 use native.Mathlib.Omega.{arith}
 use lib.Dec.{leb, ltb, eqb}
 use lib.ListN.{length, getD, set}
@@ -14,14 +15,14 @@ use Rattle.std.specs.declared.result.Result.{Result}
 use Rattle.std.specs.declared.result.Result.the-variants.{Ok, Err}
 use Rattle.std.proofs.shelf.Ways.{tells}
 use Rattle.refusal.specs.declared.Refusal.{Refusal}
-use Rattle.card.specs.Card.{lossOf, entryOf}
-use Rattle.std.proofs.shelf.Tests.{eqb-true}
+use Rattle.card.specs.Card.{rowOf, figure, lossOf, entryOf}
+use Rattle.std.proofs.shelf.Tests.{eqb-true, ltb-true, leb-true}
 use Rattle.survey.specs.declared.entry.Place.{Place}
 use Rattle.survey.specs.declared.entry.WayEntry.{WayEntry}
 use Rattle.survey.specs.Checks.{then, priceCheck, placeCheck, endsCheck, wayCheck, goodPlaces, goodWay, goodWays}
 use Rattle.survey.specs.Contents.{Contents}
 use Rattle.survey.specs.Edits.{priced, repriceWay, reprice}
-use Rattle.refusal.specs.declared.Refusal.the-variants.{NoSuchWay, WrongLetter}
+use Rattle.refusal.specs.declared.Refusal.the-variants.{NoSuchWay, WrongEnds, WrongLetter, TooLong}
 use Rattle.std.proofs.shelf.Maps.{nth-read, nth-past}
 
 -- a test of two parts passes only if both do
@@ -147,3 +148,36 @@ letter-by false false false letter metres l u s f h = let z : _≡_ {A = ℕ} 0 
 -- its letter is a byte
 pub letter-small : (letter metres l : ℕ) → lossOf letter metres ≡ Ok l → letter < 256
 letter-small letter metres l h = letter-by (eqb letter 85) (eqb letter 83) (eqb letter 70) letter metres l refl refl refl h
+
+ends-by : (b c d : Bool) (n : ℕ) (w : WayEntry) (u : Unit {0}) → ltb (w .from) n ≡ b → ltb (w .to) n ≡ c → eqb (w .from) (w .to) ≡ d
+    → cond b (cond c (cond d (Err WrongEnds) (Ok tt)) (Err WrongEnds)) (Err WrongEnds) ≡ Ok u → (w .from < n) × (w .to < n)
+ends-by true true d n w u from to same h = (ltb-true (w .from) n from, ltb-true (w .to) n to)
+ends-by true false d n w u from to same h = let z : _≡_ {A = ℕ} 0 1 = cc in absurd (omega arith)
+ends-by false c d n w u from to same h = let z : _≡_ {A = ℕ} 0 1 = cc in absurd (omega arith)
+
+-- its ends are places
+pub way-ends : (n : ℕ) (w : WayEntry) → isOk (wayCheck n w) ≡ true → (w .from < n) × (w .to < n)
+way-ends n w h =
+    let ends = then-passed (endsCheck n w) (λ _. then (lossOf (w .letter) (w .metres)) (λ _. priceCheck (w .price))) h in
+    ends-by (ltb (w .from) n) (ltb (w .to) n) (eqb (w .from) (w .to)) n w (ends .0) refl refl refl (ends .1)
+
+-- its loss is that of 200 metres at most
+loss-by : (b : Bool) (metres f l : ℕ) → f ≤ 220 → leb metres 200 ≡ b → cond b (Ok ((metres * f + 99) / 100)) (Err TooLong) ≡ Ok l → l ≤ 440
+loss-by true metres f l h few e =
+    let short = leb-true metres 200 few in
+    let most : metres * f ≤ 200 * 220 = mul-le-mul short h in
+    let same : (metres * f + 99) / 100 ≡ l = cc in
+    omega arith
+loss-by false metres f l h few e = let z : _≡_ {A = ℕ} 0 1 = cc in absurd (omega arith)
+
+figure-by : (b c : Bool) → cond b 220 (cond c 90 4) ≤ 220
+figure-by true c = omega arith
+figure-by false true = omega arith
+figure-by false false = omega arith
+
+loss-row : (r : Result ℕ Refusal) (metres l : ℕ) → entryOf r metres ≡ Ok l → l ≤ 440
+loss-row (Ok row) metres l h = loss-by (leb metres 200) metres (figure row) l (figure-by (eqb row 0) (eqb row 1)) refl h
+loss-row (Err e) metres l h = let z : _≡_ {A = ℕ} 0 1 = cc in absurd (omega arith)
+
+pub loss-small : (letter metres l : ℕ) → lossOf letter metres ≡ Ok l → l ≤ 440
+loss-small letter metres l h = loss-row (rowOf letter) metres l h

@@ -1,0 +1,2 @@
+pub mod SurveySite
+pub mod Bounds
