@@ -22,7 +22,11 @@ pub impl Charge for Disturbance as DisturbanceCharge {
     }
 
     fn join(self, other: Disturbance) -> Disturbance {
-        if self.grade < other.grade { other } else { self }
+        if self.grade < other.grade {
+            other
+        } else {
+            self
+        }
     }
 
     fn no_more(&self, other: &Disturbance) -> bool {

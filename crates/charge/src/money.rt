@@ -17,14 +17,20 @@ impl Money {
     pub fn of_cents(cents: u64) -> Money
         ensures { λ r. ⌜ r ≡ ofCents (min cents 4000000000000000000) ⌝ }
     {
-        Money { cents: if cents > CEILING { CEILING } else { cents } }
+        Money {
+            cents: if cents > CEILING { CEILING } else { cents },
+        }
     }
 
     // The cents that a sum of money means.
     pub fn counted(self) -> u64
         ensures { λ r. ⌜ r ≡ figure self ⌝ }
     {
-        if self.cents > CEILING { CEILING } else { self.cents }
+        if self.cents > CEILING {
+            CEILING
+        } else {
+            self.cents
+        }
     }
 }
 

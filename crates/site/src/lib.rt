@@ -1,4 +1,4 @@
 // Sites, and runs over them.
-pub mod way;
 pub mod run;
 pub mod site;
+pub mod way;

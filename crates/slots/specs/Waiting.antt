@@ -1,0 +1,19 @@
+-- Which cells wait, and the row order that the calls of a queue count on. Stands on Order.
+use mathlib.Core.Bool.{Bool, cond}
+use mathlib.Core.List.{List}
+use Prim.Native.Nat.{ℕ, _≤_}
+use lib.Dec.{ltb}
+use lib.ListN.{getD}
+use Rattle.std.specs.Finite.{nth}
+use Rattle.std.specs.declared.option.Option.{Option}
+use Rattle.std.specs.declared.option.Option.the-variants.{None}
+use Rattle.slots.specs.Order.{Placed, Arranged, Ahead}
+
+-- the cell `k` waits with its charge where it stands before the position `len`
+abbrev pub waitsOf : {C : Type 0} → List C → List ℕ → ℕ → ℕ → Option C
+waitsOf charges positions len k = cond (ltb (getD positions k 0) len) (nth charges k) None
+
+pub record InOrder {C : Type 0} (up : ℕ → ℕ) (rank : C → C → Bool) (n : ℕ) (charges : List C) (cells positions : List ℕ) (len : ℕ) : Type 0 where
+  pub placed : Placed n cells positions
+  pub within : len ≤ n
+  pub arranged : Arranged up (Ahead rank charges) cells len

@@ -1,0 +1,107 @@
+// The calls that queues over lent rows share.
+ghost use mathlib.Core.Path.{_≡_};
+ghost use Prim.Native.Nat.{ℕ, _+_, _-_, _<_, _≤_};
+ghost use lib.ListN.{length, getD};
+ghost use Rattle.std.specs.Results.{Cases};
+ghost use Rattle.std.specs.Options.{Cases as BySome};
+ghost use Rattle.refusal.specs.declared.Refusal.the-variants.{NoSuchCell};
+ghost use Rattle.queue.specs.Waits.{Put, Taken};
+ghost use Rattle.slots.specs.Rows.{charges, cells, positions};
+ghost use Rattle.slots.specs.Order.{Placed, ranked};
+ghost use Rattle.slots.specs.Waiting.{waitsOf, InOrder};
+use crate::column::cell_at;
+use crate::column::charge_at;
+use crate::column::exchange;
+use crate::column::may_top;
+use crate::column::position_at;
+use crate::column::set_cell;
+use crate::column::set_charge;
+use crate::column::set_position;
+use crate::layout::Layout;
+use crate::sift::sift_down;
+use crate::sift::sift_up;
+use crate::slot::Slot;
+use charge::kind::Charge;
+use refusal::Refusal;
+
+// Each cell goes to the position of its own number, whatever the rows held; the charges stay.
+pub fn set_out<C: Charge>(rows: &mut [Slot<C>])
+    ensures charges { λ _. ⌜ charges (now (rows .exit)) ≡ charges (now (rows .entry)) ⌝ }
+    ensures placed { λ _. ⌜ Placed (length (now (rows .entry))) (cells (now (rows .exit))) (positions (now (rows .exit))) ⌝ }
+{
+    let mut i = 0;
+    while i < rows.len() {
+        set_cell(rows, i, i);
+        set_position(rows, i, i);
+        i += 1;
+    }
+}
+
+// `cell`, which does not wait, waits with `charge`: it goes to the position `len`, and up from there.
+fn enter<C: Charge, L: Layout>(rows: &mut [Slot<C>], len: usize, cell: usize, charge: C)
+    requires order { ⌜ InOrder (L·Layout .up) (ranked (L·Layout .turned) (C·Charge .within)) (length (now rows)) (charges (now rows)) (cells (now rows)) (positions (now rows)) len ⌝ }
+    requires within { ⌜ cell < length (now rows) ⌝ }
+    requires apart { ⌜ len ≤ getD (positions (now rows)) cell 0 ⌝ }
+    ensures room { λ _. ⌜ len < length (now (rows .entry)) ⌝ }
+    ensures order { λ _. ⌜ InOrder (L·Layout .up) (ranked (L·Layout .turned) (C·Charge .within)) (length (now (rows .entry))) (charges (now (rows .exit))) (cells (now (rows .exit))) (positions (now (rows .exit))) (len + 1) ⌝ }
+    ensures put { λ _. ⌜ Put (waitsOf (charges (now (rows .entry))) (positions (now (rows .entry))) len) (waitsOf (charges (now (rows .exit))) (positions (now (rows .exit))) (len + 1)) cell charge ⌝ }
+{
+    set_charge(rows, cell, charge);
+    let at = position_at(rows, cell);
+    exchange(rows, at, len);
+    sift_up::<C, L>(rows, len + 1, len);
+}
+
+// `cell`, which waits, is charged anew, and goes up or down.
+fn recharge<C: Charge, L: Layout>(rows: &mut [Slot<C>], len: usize, cell: usize, charge: C)
+    requires order { ⌜ InOrder (L·Layout .up) (ranked (L·Layout .turned) (C·Charge .within)) (length (now rows)) (charges (now rows)) (cells (now rows)) (positions (now rows)) len ⌝ }
+    requires within { ⌜ cell < length (now rows) ⌝ }
+    requires waits { ⌜ getD (positions (now rows)) cell 0 < len ⌝ }
+    ensures order { λ _. ⌜ InOrder (L·Layout .up) (ranked (L·Layout .turned) (C·Charge .within)) (length (now (rows .entry))) (charges (now (rows .exit))) (cells (now (rows .exit))) (positions (now (rows .exit))) len ⌝ }
+    ensures put { λ _. ⌜ Put (waitsOf (charges (now (rows .entry))) (positions (now (rows .entry))) len) (waitsOf (charges (now (rows .exit))) (positions (now (rows .exit))) len) cell charge ⌝ }
+{
+    let old = charge_at(rows, cell);
+    let at = position_at(rows, cell);
+    set_charge(rows, cell, charge);
+    if may_top::<C, L>(&charge, &old) {
+        sift_up::<C, L>(rows, len, at);
+        return;
+    }
+    sift_down::<C, L>(rows, len, at);
+}
+
+// The cell waits with the charge, in place of an older one; the answer is how many wait then.
+pub fn put_cell<C: Charge, L: Layout>(
+    rows: &mut [Slot<C>],
+    len: usize,
+    cell: usize,
+    charge: C,
+) -> Result<usize, Refusal>
+    requires { ⌜ InOrder (L·Layout .up) (ranked (L·Layout .turned) (C·Charge .within)) (length (now rows)) (charges (now rows)) (cells (now rows)) (positions (now rows)) len ⌝ }
+    ensures { λ r. ⌜ Cases r (λ m. (cell < length (now (rows .entry))) × InOrder (L·Layout .up) (ranked (L·Layout .turned) (C·Charge .within)) (length (now (rows .entry))) (charges (now (rows .exit))) (cells (now (rows .exit))) (positions (now (rows .exit))) m × Put (waitsOf (charges (now (rows .entry))) (positions (now (rows .entry))) len) (waitsOf (charges (now (rows .exit))) (positions (now (rows .exit))) m) cell charge) (λ e. (e ≡ NoSuchCell) × (length (now (rows .entry)) ≤ cell) × (now (rows .exit) ≡ now (rows .entry))) ⌝ }
+{
+    if cell >= rows.len() {
+        return Err(Refusal::NoSuchCell);
+    }
+    if position_at(rows, cell) < len {
+        recharge::<C, L>(rows, len, cell, charge);
+        return Ok(len);
+    }
+    enter::<C, L>(rows, len, cell, charge);
+    Ok(len + 1)
+}
+
+// The cell at the top, with its charge, leaves; none where no cell waits.
+pub fn take_top<C: Charge, L: Layout>(rows: &mut [Slot<C>], len: usize) -> Option<(usize, C)>
+    requires { ⌜ InOrder (L·Layout .up) (ranked (L·Layout .turned) (C·Charge .within)) (length (now rows)) (charges (now rows)) (cells (now rows)) (positions (now rows)) len ⌝ }
+    ensures { λ r. ⌜ BySome r ((len ≡ 0) × (now (rows .exit) ≡ now (rows .entry))) (λ p. (0 < len) × (p .0 < length (now (rows .entry))) × InOrder (L·Layout .up) (ranked (L·Layout .turned) (C·Charge .within)) (length (now (rows .entry))) (charges (now (rows .exit))) (cells (now (rows .exit))) (positions (now (rows .exit))) (len - 1) × Taken (ranked (L·Layout .turned) (C·Charge .within)) (waitsOf (charges (now (rows .entry))) (positions (now (rows .entry))) len) (waitsOf (charges (now (rows .exit))) (positions (now (rows .exit))) (len - 1)) (p .0) (p .1)) ⌝ }
+{
+    if len == 0 {
+        return None;
+    }
+    let cell = cell_at(rows, 0);
+    let charge = charge_at(rows, cell);
+    exchange(rows, 0, len - 1);
+    sift_down::<C, L>(rows, len - 1, 0);
+    Some((cell, charge))
+}
