@@ -91,6 +91,19 @@ pub fn put_cell<C: Charge, L: Layout>(
     Ok(len + 1)
 }
 
+// The cell that stands at a position, with its charge; none where there is no such position.
+pub fn standing<C: Charge>(rows: &[Slot<C>], position: usize) -> Option<(usize, C)>
+    requires { ⌜ Placed (length (now rows)) (cells (now rows)) (positions (now rows)) ⌝ }
+    ensures { λ r. ⌜ BySome r (length (now (rows .entry)) ≤ position) (λ p. (position < length (now (rows .entry))) × (p .0 ≡ getD (cells (now (rows .entry))) position 0) × ((d : C) → p .1 ≡ getD (charges (now (rows .entry))) (p .0) d)) ⌝ }
+{
+    if position >= rows.len() {
+        return None;
+    }
+    let cell = cell_at(rows, position);
+    let charge = charge_at(rows, cell);
+    Some((cell, charge))
+}
+
 // The cell at the top, with its charge, leaves; none where no cell waits.
 pub fn take_top<C: Charge, L: Layout>(rows: &mut [Slot<C>], len: usize) -> Option<(usize, C)>
     requires { ⌜ InOrder (L·Layout .up) (ranked (L·Layout .turned) (C·Charge .within)) (length (now rows)) (charges (now rows)) (cells (now rows)) (positions (now rows)) len ⌝ }
