@@ -1,7 +1,7 @@
 // The calls that queues over lent rows share.
 ghost use mathlib.Core.Path.{_≡_};
 ghost use Prim.Native.Nat.{ℕ, _+_, _-_, _<_, _≤_};
-ghost use lib.ListN.{length, getD};
+ghost use lib.ListN.{length, getD, set};
 ghost use Rattle.std.specs.Results.{Cases};
 ghost use Rattle.std.specs.Options.{Cases as BySome};
 ghost use Rattle.refusal.specs.declared.Refusal.the-variants.{NoSuchCell};
@@ -24,6 +24,17 @@ use crate::slot::Slot;
 use charge::kind::Charge;
 use refusal::Refusal;
 
+// The row `i` says that cell `i` stands at position `i`.
+fn settle<C: Charge>(rows: &mut [Slot<C>], i: usize)
+    requires { ⌜ i < length (now rows) ⌝ }
+    ensures charges { λ _. ⌜ charges (now (rows .exit)) ≡ charges (now (rows .entry)) ⌝ }
+    ensures cells { λ _. ⌜ cells (now (rows .exit)) ≡ set (cells (now (rows .entry))) i i ⌝ }
+    ensures positions { λ _. ⌜ positions (now (rows .exit)) ≡ set (positions (now (rows .entry))) i i ⌝ }
+{
+    set_cell(rows, i, i);
+    set_position(rows, i, i);
+}
+
 // Each cell goes to the position of its own number, whatever the rows held; the charges stay.
 pub fn set_out<C: Charge>(rows: &mut [Slot<C>])
     ensures charges { λ _. ⌜ charges (now (rows .exit)) ≡ charges (now (rows .entry)) ⌝ }
@@ -31,8 +42,7 @@ pub fn set_out<C: Charge>(rows: &mut [Slot<C>])
 {
     let mut i = 0;
     while i < rows.len() {
-        set_cell(rows, i, i);
-        set_position(rows, i, i);
+        settle(rows, i);
         i += 1;
     }
 }

@@ -1,4 +1,4 @@
--- two writes more, and at the end every row holds its own number
+-- one more row settled, and at the end every row holds its own number
 use mathlib.Core.Path.{_≡_, ap, _∙_}
 use Prim.Native.Nat.{ℕ, _<_}
 use native.Mathlib.Omega.{arith}
@@ -13,13 +13,12 @@ loop-i-again g c =
     let inv = c .loop-i .inv in
     let rows = c .loop-i .rows in
     let i = c .loop-i .i in
-    let last = c .set-position .last .rows in
     let lc : i < length (cells rows) = omega (arith, length-map rows (λ s. s .cell)) in
     let lp : i < length (positions rows) = omega (arith, length-map rows (λ s. s .position)) in (
       omega arith,
-      c .set-position .ensures .charges ∙ c .set-cell .ensures .charges ∙ inv .1,
-      λ k h. ap (λ xs. getD xs k 0) (c .set-position .ensures .cells ∙ c .set-cell .ensures .cells) ∙ fill-by-more (λ m. m) (cells rows) i 0 lc (inv .2) k h,
-      λ k h. ap (λ xs. getD xs k 0) (c .set-position .ensures .positions ∙ ap (λ xs. set xs i i) (c .set-cell .ensures .positions)) ∙ fill-by-more (λ m. m) (positions rows) i 0 lp (inv .3) k h,
+      c .settle .ensures .charges ∙ inv .1,
+      λ k h. ap (λ xs. getD xs k 0) (c .settle .ensures .cells) ∙ fill-by-more (λ m. m) (cells rows) i 0 lc (inv .2) k h,
+      λ k h. ap (λ xs. getD xs k 0) (c .settle .ensures .positions) ∙ fill-by-more (λ m. m) (positions rows) i 0 lp (inv .3) k h,
     )
 
 pub returns : need.returns

@@ -37,9 +37,10 @@ loop-i-again g c =
     let last = c .exchange .last .rows in
     let n = length (c .args .rows .now) in
     let is = c .parent-up .ensures in
-    let lower = tree .earlier i (c .loop-i-test .taken) in
+    let pos : 0 < i = omega arith in
+    let lower = tree .earlier i pos in
     let x : Exchanged (cells rows) (positions rows) (cells last) (positions last) (up i) i = subst (λ (m : ℕ). Exchanged (cells rows) (positions rows) (cells last) (positions last) m i) is (c .exchange .ensures .exchanged) in
-    let r = risen up (g .L·Layout .down) tree R tr (cells rows) (positions rows) (cells last) (positions last) (c .args .len) i (c .loop-i-test .taken) (inv .0) x (inv .3)
+    let r = risen up (g .L·Layout .down) tree R tr (cells rows) (positions rows) (cells last) (positions last) (c .args .len) i pos (inv .0) x (inv .3)
     (λ d. let e = c .if-ahead .ensures tt d in let q = inv .1 in ranked-total (g .C·Charge .within) (g .C·Charge·met .total) (g .L·Layout .turned) _ _ (cc)) in (
       omega arith,
       c .exchange .ensures .charges ∙ inv .1,
@@ -47,16 +48,3 @@ loop-i-again g c =
       subst (λ (m : ℕ). Rising up R (cells last) (c .args .len) m) (sym is) r,
       λ k. same-wait n (cells rows) (positions rows) (cells last) (positions last) (up i) i (inv .2) (omega arith) (omega arith) x (c .args .len) (omega arith) (omega arith) k ∙ inv .4 k,
     )
-
-pub returns : need.returns
-returns g c =
-    let rank = ranked (g .L·Layout .turned) (g .C·Charge .within) in
-    let inv = c .loop-i .inv in
-    let R : ℕ → ℕ → Type 0 = Ahead rank (charges (c .args .rows .now)) in
-    let zero : c .loop-i .i ≡ 0 = omega arith in
-    record {
-      charges = inv .1;
-      placed = inv .2;
-      arranged = λ k h b. inv .3 .others k h b (λ e. omega arith);
-      same = inv .4;
-    }
