@@ -1,13 +1,12 @@
 // An indexed binary heap over rows that the caller lends: a priority queue for every charge kind. The lowest charge
 // stands at the top; a cell is found by its position, without a search.
 ghost use mathlib.Core.Path.{_≡_};
-ghost use mathlib.Core.Bool.{Bool, true, false};
-ghost use Prim.Native.Nat.{ℕ, _+_, _-_, _*_, _/_};
+ghost use mathlib.Core.Bool.{false};
+ghost use Prim.Native.Nat.{ℕ};
 ghost use lib.ListN.{length};
 ghost use denote.Ref.{now};
 ghost use Rattle.std.specs.declared.option.Option.the-variants.{None};
-ghost use Rattle.slots.specs.Rows.{charges, cells, positions};
-ghost use Rattle.slots.specs.Waiting.{waitsOf, InOrder};
+ghost use Rattle.slots.specs.Waiting.{waiting, RowOrder};
 ghost use Rattle.heap.specs.Shape.{above, firstBelow};
 use charge::kind::Charge;
 use queue::queue::PriorityQueue;
@@ -52,9 +51,9 @@ pub struct Heap<'a, C> {
 impl<'a, C: Charge> Heap<'a, C> {
     // A heap in which no cell waits, whatever the rows held.
     pub fn over(rows: &'a mut [Slot<C>]) -> Heap<'a, C>
-        ensures ordered { λ r. ⌜ InOrder above (C·Charge .within) (length (now (r .rows))) (charges (now (r .rows))) (cells (now (r .rows))) (positions (now (r .rows))) (r .len) ⌝ }
+        ensures ordered { λ r. ⌜ RowOrder above (C·Charge .within) (length (now (r .rows))) (now (r .rows)) (r .len) ⌝ }
         ensures many { λ r. ⌜ length (now (r .rows)) ≡ length (now (rows .entry)) ⌝ }
-        ensures empty { λ r. ⌜ ((k : ℕ) → waitsOf (charges (now (r .rows))) (positions (now (r .rows))) (r .len) k ≡ None) ⌝ }
+        ensures empty { λ r. ⌜ ((k : ℕ) → waiting (now (r .rows)) (r .len) k ≡ None) ⌝ }
     {
         set_out(rows);
         Heap { rows, len: 0 }
@@ -64,9 +63,9 @@ impl<'a, C: Charge> Heap<'a, C> {
 pub impl<C: Charge> PriorityQueue for Heap<'_, C> as HeapQueue {
     type Charge = C;
 
-    ghost waits = { λ h. waitsOf (charges (now (h .rows))) (positions (now (h .rows))) (h .len) };
+    ghost waits = { λ h. waiting (now (h .rows)) (h .len) };
 
-    ghost ordered = { λ h. InOrder above (C·Charge .within) (length (now (h .rows))) (charges (now (h .rows))) (cells (now (h .rows))) (positions (now (h .rows))) (h .len) };
+    ghost ordered = { λ h. RowOrder above (C·Charge .within) (length (now (h .rows))) (now (h .rows)) (h .len) };
 
     ghost many = { λ h. length (now (h .rows)) };
 

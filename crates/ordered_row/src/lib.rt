@@ -1,16 +1,15 @@
 // A row of the waiting cells in the order of their charges, over rows that the caller lends: a priority queue for every
 // charge kind. The highest charge stands first and a lowest one last, so that to take one is a single step.
 ghost use mathlib.Core.Path.{_≡_};
-ghost use mathlib.Core.Bool.{Bool, true, false};
-ghost use Prim.Native.Nat.{ℕ, _+_, _-_, _<_};
+ghost use mathlib.Core.Bool.{true};
+ghost use Prim.Native.Nat.{ℕ, _-_, _<_};
 ghost use lib.ListN.{length};
 ghost use denote.Ref.{now};
 ghost use Rattle.std.specs.Options.{Cases as BySome};
 ghost use Rattle.std.specs.declared.option.Option.the-variants.{None};
 ghost use Rattle.queue.specs.Waits.{Taken};
 ghost use Rattle.slots.specs.Order.{ranked};
-ghost use Rattle.slots.specs.Rows.{charges, cells, positions};
-ghost use Rattle.slots.specs.Waiting.{waitsOf, InOrder};
+ghost use Rattle.slots.specs.Waiting.{waiting, RowOrder};
 ghost use Rattle.ordered_row.specs.Chain.{before, next};
 use charge::kind::Charge;
 use queue::queue::PriorityQueue;
@@ -59,9 +58,9 @@ pub struct OrderedRow<'a, C> {
 impl<'a, C: Charge> OrderedRow<'a, C> {
     // An ordered row in which no cell waits, whatever the rows held.
     pub fn over(rows: &'a mut [Slot<C>]) -> OrderedRow<'a, C>
-        ensures ordered { λ r. ⌜ InOrder before (ranked true (C·Charge .within)) (length (now (r .rows))) (charges (now (r .rows))) (cells (now (r .rows))) (positions (now (r .rows))) (r .len) ⌝ }
+        ensures ordered { λ r. ⌜ RowOrder before (ranked true (C·Charge .within)) (length (now (r .rows))) (now (r .rows)) (r .len) ⌝ }
         ensures many { λ r. ⌜ length (now (r .rows)) ≡ length (now (rows .entry)) ⌝ }
-        ensures empty { λ r. ⌜ ((k : ℕ) → waitsOf (charges (now (r .rows))) (positions (now (r .rows))) (r .len) k ≡ None) ⌝ }
+        ensures empty { λ r. ⌜ ((k : ℕ) → waiting (now (r .rows)) (r .len) k ≡ None) ⌝ }
     {
         set_out(rows);
         OrderedRow { rows, len: 0 }
@@ -71,9 +70,9 @@ impl<'a, C: Charge> OrderedRow<'a, C> {
 // The cell at the last position that waits, with its charge; none where no cell waits. With one position less, in rows
 // as they are, it waits no more.
 fn last<C: Charge>(rows: &mut [Slot<C>], len: usize) -> Option<(usize, C)>
-    requires { ⌜ InOrder before (ranked true (C·Charge .within)) (length (now rows)) (charges (now rows)) (cells (now rows)) (positions (now rows)) len ⌝ }
+    requires { ⌜ RowOrder before (ranked true (C·Charge .within)) (length (now rows)) (now rows) len ⌝ }
     ensures same { λ _. ⌜ now (rows .exit) ≡ now (rows .entry) ⌝ }
-    ensures answer { λ r. ⌜ BySome r (len ≡ 0) (λ p. (0 < len) × (p .0 < length (now (rows .entry))) × InOrder before (ranked true (C·Charge .within)) (length (now (rows .entry))) (charges (now (rows .entry))) (cells (now (rows .entry))) (positions (now (rows .entry))) (len - 1) × Taken (C·Charge .within) (waitsOf (charges (now (rows .entry))) (positions (now (rows .entry))) len) (waitsOf (charges (now (rows .entry))) (positions (now (rows .entry))) (len - 1)) (p .0) (p .1)) ⌝ }
+    ensures answer { λ r. ⌜ BySome r (len ≡ 0) (λ p. (0 < len) × (p .0 < length (now (rows .entry))) × RowOrder before (ranked true (C·Charge .within)) (length (now (rows .entry))) (now (rows .entry)) (len - 1) × Taken (C·Charge .within) (waiting (now (rows .entry)) len) (waiting (now (rows .entry)) (len - 1)) (p .0) (p .1)) ⌝ }
 {
     if len == 0 {
         return None;
@@ -84,9 +83,9 @@ fn last<C: Charge>(rows: &mut [Slot<C>], len: usize) -> Option<(usize, C)>
 pub impl<C: Charge> PriorityQueue for OrderedRow<'_, C> as OrderedRowQueue {
     type Charge = C;
 
-    ghost waits = { λ q. waitsOf (charges (now (q .rows))) (positions (now (q .rows))) (q .len) };
+    ghost waits = { λ q. waiting (now (q .rows)) (q .len) };
 
-    ghost ordered = { λ q. InOrder before (ranked true (C·Charge .within)) (length (now (q .rows))) (charges (now (q .rows))) (cells (now (q .rows))) (positions (now (q .rows))) (q .len) };
+    ghost ordered = { λ q. RowOrder before (ranked true (C·Charge .within)) (length (now (q .rows))) (now (q .rows)) (q .len) };
 
     ghost many = { λ q. length (now (q .rows)) };
 

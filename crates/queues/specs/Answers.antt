@@ -3,7 +3,7 @@ use mathlib.Core.Path.{_≡_}
 use mathlib.Core.Logic.{_⊎_}
 use Prim.Native.Nat.{ℕ, _<_, _≤_}
 use Rattle.std.specs.declared.option.Option.{Option}
-use Rattle.std.specs.declared.option.Option.the-variants.{Some, None}
+use Rattle.std.specs.declared.option.Option.the-variants.{None}
 use Rattle.charge.specs.declared.money.Money.{Money}
 use Rattle.charge.specs.Moneys.{ofCents, figure, moneyWithin}
 use Rattle.refusal.specs.declared.Refusal.the-variants.{NoSuchCell}

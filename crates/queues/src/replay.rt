@@ -1,7 +1,7 @@
 // The calls of the text on two queues, block by block: each "rows R" starts a block with fresh rows.
 ghost use mathlib.Core.Path.{_≡_};
 ghost use mathlib.Core.Bool.{cond};
-ghost use Prim.Native.Nat.{ℕ, _+_, _<_, _≤_, min};
+ghost use Prim.Native.Nat.{_+_, _<_, _≤_, min};
 ghost use lib.ListN.{length};
 use crate::answer::Answer;
 use crate::answer::AnswerPartialEq;

@@ -7,27 +7,24 @@ use Prim.Native.Nat.{ℕ, _<_}
 use native.Mathlib.Omega.{arith}
 use lib.ListN.{getD}
 use Rattle.std.proofs.shelf.Tests.{cases-eq}
+use Rattle.slots.proofs.Related.{moved}
 use Rattle.slots.specs.Order.{Tree, Exchanged, Rising, Arranged}
 
 module _ (up down : ℕ → ℕ) (t : Tree up down) (R : ℕ → ℕ → Type 0) (trans : (a b c : ℕ) → R a b → R b c → R a c) where
-  -- R at equal cells
-  moved : {a b a′ b′ : ℕ} → a′ ≡ a → b′ ≡ b → R a b → R a′ b′
-  moved p q r = rw (p, q) r
-
   module _ (cs ps cs′ ps′ : List ℕ) (len i : ℕ) (pos : 0 < i) (below : i < len) (x : Exchanged cs ps cs′ ps′ (up i) i) (r : Rising up R cs len i) (less : R (getD cs i 0) (getD cs (up i) 0)) where
     -- another position below the one above `i`
     beside : (k : ℕ) → 0 < k → k < len → k ≢ i → up k ≡ up i → R (getD cs (up i) 0) (getD cs k 0)
-    beside k h b ni e = moved (ap (λ m. getD cs m 0) (sym e)) refl (r .others k h b ni)
+    beside k h b ni e = moved R (ap (λ m. getD cs m 0) (sym e)) refl (r .others k h b ni)
 
     others′ : (k : ℕ) → 0 < k → k < len → k ≢ up i → R (getD cs′ (up k) 0) (getD cs′ k 0)
     others′ k h b nu =
         elim (cases-eq k i) [
-          | inl e ↦ moved (ap (λ m. getD cs′ (up m) 0) e ∙ x .at-i) (ap (λ m. getD cs′ m 0) e ∙ x .at-j) less
+          | inl e ↦ moved R (ap (λ m. getD cs′ (up m) 0) e ∙ x .at-i) (ap (λ m. getD cs′ m 0) e ∙ x .at-j) less
           | inr ni ↦ elim (cases-eq (up k) (up i)) [
-            | inl e ↦ moved (ap (λ m. getD cs′ m 0) e ∙ x .at-i) (x .else k nu ni) (trans _ _ _ less (beside k h b ni e))
+            | inl e ↦ moved R (ap (λ m. getD cs′ m 0) e ∙ x .at-i) (x .else k nu ni) (trans _ _ _ less (beside k h b ni e))
             | inr nup ↦ elim (cases-eq (up k) i) [
-              | inl e ↦ moved (ap (λ m. getD cs′ m 0) e ∙ x .at-j) (x .else k nu ni) (r .across k h b pos e)
-              | inr npi ↦ moved (x .else (up k) nup npi) (x .else k nu ni) (r .others k h b ni)
+              | inl e ↦ moved R (ap (λ m. getD cs′ m 0) e ∙ x .at-j) (x .else k nu ni) (r .across k h b pos e)
+              | inr npi ↦ moved R (x .else (up k) nup npi) (x .else k nu ni) (r .others k h b ni)
             ]
           ]
         ]
@@ -42,8 +39,8 @@ module _ (up down : ℕ → ℕ) (t : Tree up down) (R : ℕ → ℕ → Type 0)
         let nu : k ≢ up i = λ q. omega arith in
         let step = r .others (up i) hu (omega arith) (λ q. omega arith) in
         elim (cases-eq k i) [
-          | inl q ↦ moved (x .else _ n1 n2) (ap (λ m. getD cs′ m 0) q ∙ x .at-j) step
-          | inr ni ↦ moved (x .else _ n1 n2) (x .else k nu ni) (trans _ _ _ step (beside k h b ni e))
+          | inl q ↦ moved R (x .else _ n1 n2) (ap (λ m. getD cs′ m 0) q ∙ x .at-j) step
+          | inr ni ↦ moved R (x .else _ n1 n2) (x .else k nu ni) (trans _ _ _ step (beside k h b ni e))
         ]
 
     pub risen : Rising up R cs′ len (up i)
@@ -53,6 +50,6 @@ module _ (up down : ℕ → ℕ) (t : Tree up down) (R : ℕ → ℕ → Type 0)
   pub settled : (cs : List ℕ) (len i : ℕ) → Rising up R cs len i → R (getD cs (up i) 0) (getD cs i 0) → Arranged up R cs len
   settled cs len i r stands k h b =
       elim (cases-eq k i) [
-        | inl e ↦ moved (ap (λ m. getD cs (up m) 0) e) (ap (λ m. getD cs m 0) e) stands
+        | inl e ↦ moved R (ap (λ m. getD cs (up m) 0) e) (ap (λ m. getD cs m 0) e) stands
         | inr ni ↦ r .others k h b ni
       ]

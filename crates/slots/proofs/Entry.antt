@@ -1,6 +1,6 @@
 -- A cell that does not wait goes to the position behind those that wait: it alone begins to wait, and the others are
 -- arranged as they were, since none of them moves.
-use mathlib.Core.Path.{_≡_, refl, sym, ap, _∙_}
+use mathlib.Core.Path.{_≡_, sym, ap, _∙_}
 use mathlib.Core.Bool.{Bool, true}
 use mathlib.Core.List.{List}
 use mathlib.Core.Logic.{_≢_, inl, inr}

@@ -1,5 +1,6 @@
 pub mod Columns
 pub mod Ranks
+pub mod Related
 pub mod Swaps
 pub mod Climb
 pub mod Sink

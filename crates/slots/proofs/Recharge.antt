@@ -1,6 +1,6 @@
 -- A cell that waits is charged anew: it belongs higher where its charge may stand above the old one, else lower; the
 -- others are arranged as they were, and across its position by transitivity.
-use mathlib.Core.Path.{_≡_, refl, sym, ap, _∙_}
+use mathlib.Core.Path.{_≡_, sym, ap, _∙_}
 use mathlib.Core.Bool.{Bool, true}
 use mathlib.Core.List.{List}
 use mathlib.Core.Logic.{_≢_, inl, inr}

@@ -1,7 +1,7 @@
 -- The cell at the top leaves: it changes positions with the last that waits, which then sinks; it alone stops waiting,
 -- and it may stand above all that wait.
-use mathlib.Core.Path.{_≡_, refl, sym, ap, _∙_}
-use mathlib.Core.Bool.{Bool, true, false}
+use mathlib.Core.Path.{_≡_, sym, ap, _∙_}
+use mathlib.Core.Bool.{Bool, true}
 use mathlib.Core.List.{List}
 use mathlib.Core.Logic.{_≢_, inl, inr}
 use Prim.Native.Nat.{ℕ, _-_, _<_, _≤_}

@@ -1,4 +1,4 @@
--- Which cells wait, and the row order that the calls of a queue count on. Stands on Order.
+-- Which cells wait, and the row order that the calls of a queue count on. Stands on Rows and Order.
 use mathlib.Core.Bool.{Bool, cond}
 use mathlib.Core.List.{List}
 use Prim.Native.Nat.{ℕ, _≤_}
@@ -7,6 +7,8 @@ use lib.ListN.{getD}
 use Rattle.std.specs.Finite.{nth}
 use Rattle.std.specs.declared.option.Option.{Option}
 use Rattle.std.specs.declared.option.Option.the-variants.{None}
+use Rattle.slots.specs.declared.slot.Slot.{Slot}
+use Rattle.slots.specs.Rows.{charges, cells, positions}
 use Rattle.slots.specs.Order.{Placed, Arranged, Ahead}
 
 -- the cell `k` waits with its charge where it stands before the position `len`
@@ -17,3 +19,10 @@ pub record InOrder {C : Type 0} (up : ℕ → ℕ) (rank : C → C → Bool) (n 
   pub placed : Placed n cells positions
   pub within : len ≤ n
   pub arranged : Arranged up (Ahead rank charges) cells len
+
+-- what waits in rows, and their order for `n` cells
+abbrev pub waiting : {C : Type 0} → List (Slot C) → ℕ → ℕ → Option C
+waiting rows len = waitsOf (charges rows) (positions rows) len
+
+abbrev pub RowOrder : {C : Type 0} → (ℕ → ℕ) → (C → C → Bool) → ℕ → List (Slot C) → ℕ → Type 0
+RowOrder up rank n rows len = InOrder up rank n (charges rows) (cells rows) (positions rows) len

@@ -1,6 +1,6 @@
 // The calls that queues over lent rows share.
 ghost use mathlib.Core.Path.{_≡_};
-ghost use Prim.Native.Nat.{ℕ, _+_, _-_, _<_, _≤_};
+ghost use Prim.Native.Nat.{_+_, _-_, _<_, _≤_};
 ghost use lib.ListN.{length, getD, set};
 ghost use Rattle.std.specs.Results.{Cases};
 ghost use Rattle.std.specs.Options.{Cases as BySome};
@@ -8,7 +8,7 @@ ghost use Rattle.refusal.specs.declared.Refusal.the-variants.{NoSuchCell};
 ghost use Rattle.queue.specs.Waits.{Put, Taken};
 ghost use Rattle.slots.specs.Rows.{charges, cells, positions};
 ghost use Rattle.slots.specs.Order.{Placed, ranked};
-ghost use Rattle.slots.specs.Waiting.{waitsOf, InOrder};
+ghost use Rattle.slots.specs.Waiting.{waiting, RowOrder};
 use crate::column::cell_at;
 use crate::column::charge_at;
 use crate::column::exchange;
@@ -49,12 +49,12 @@ pub fn set_out<C: Charge>(rows: &mut [Slot<C>])
 
 // `cell`, which does not wait, waits with `charge`: it goes to the position `len`, and up from there.
 fn enter<C: Charge, L: Layout>(rows: &mut [Slot<C>], len: usize, cell: usize, charge: C)
-    requires order { ⌜ InOrder (L·Layout .up) (ranked (L·Layout .turned) (C·Charge .within)) (length (now rows)) (charges (now rows)) (cells (now rows)) (positions (now rows)) len ⌝ }
+    requires order { ⌜ RowOrder (L·Layout .up) (ranked (L·Layout .turned) (C·Charge .within)) (length (now rows)) (now rows) len ⌝ }
     requires within { ⌜ cell < length (now rows) ⌝ }
     requires apart { ⌜ len ≤ getD (positions (now rows)) cell 0 ⌝ }
     ensures room { λ _. ⌜ len < length (now (rows .entry)) ⌝ }
-    ensures order { λ _. ⌜ InOrder (L·Layout .up) (ranked (L·Layout .turned) (C·Charge .within)) (length (now (rows .entry))) (charges (now (rows .exit))) (cells (now (rows .exit))) (positions (now (rows .exit))) (len + 1) ⌝ }
-    ensures put { λ _. ⌜ Put (waitsOf (charges (now (rows .entry))) (positions (now (rows .entry))) len) (waitsOf (charges (now (rows .exit))) (positions (now (rows .exit))) (len + 1)) cell charge ⌝ }
+    ensures order { λ _. ⌜ RowOrder (L·Layout .up) (ranked (L·Layout .turned) (C·Charge .within)) (length (now (rows .entry))) (now (rows .exit)) (len + 1) ⌝ }
+    ensures put { λ _. ⌜ Put (waiting (now (rows .entry)) len) (waiting (now (rows .exit)) (len + 1)) cell charge ⌝ }
 {
     set_charge(rows, cell, charge);
     let at = position_at(rows, cell);
@@ -64,11 +64,11 @@ fn enter<C: Charge, L: Layout>(rows: &mut [Slot<C>], len: usize, cell: usize, ch
 
 // `cell`, which waits, is charged anew, and goes up or down.
 fn recharge<C: Charge, L: Layout>(rows: &mut [Slot<C>], len: usize, cell: usize, charge: C)
-    requires order { ⌜ InOrder (L·Layout .up) (ranked (L·Layout .turned) (C·Charge .within)) (length (now rows)) (charges (now rows)) (cells (now rows)) (positions (now rows)) len ⌝ }
+    requires order { ⌜ RowOrder (L·Layout .up) (ranked (L·Layout .turned) (C·Charge .within)) (length (now rows)) (now rows) len ⌝ }
     requires within { ⌜ cell < length (now rows) ⌝ }
     requires waits { ⌜ getD (positions (now rows)) cell 0 < len ⌝ }
-    ensures order { λ _. ⌜ InOrder (L·Layout .up) (ranked (L·Layout .turned) (C·Charge .within)) (length (now (rows .entry))) (charges (now (rows .exit))) (cells (now (rows .exit))) (positions (now (rows .exit))) len ⌝ }
-    ensures put { λ _. ⌜ Put (waitsOf (charges (now (rows .entry))) (positions (now (rows .entry))) len) (waitsOf (charges (now (rows .exit))) (positions (now (rows .exit))) len) cell charge ⌝ }
+    ensures order { λ _. ⌜ RowOrder (L·Layout .up) (ranked (L·Layout .turned) (C·Charge .within)) (length (now (rows .entry))) (now (rows .exit)) len ⌝ }
+    ensures put { λ _. ⌜ Put (waiting (now (rows .entry)) len) (waiting (now (rows .exit)) len) cell charge ⌝ }
 {
     let old = charge_at(rows, cell);
     let at = position_at(rows, cell);
@@ -87,8 +87,8 @@ pub fn put_cell<C: Charge, L: Layout>(
     cell: usize,
     charge: C,
 ) -> Result<usize, Refusal>
-    requires { ⌜ InOrder (L·Layout .up) (ranked (L·Layout .turned) (C·Charge .within)) (length (now rows)) (charges (now rows)) (cells (now rows)) (positions (now rows)) len ⌝ }
-    ensures { λ r. ⌜ Cases r (λ m. (cell < length (now (rows .entry))) × InOrder (L·Layout .up) (ranked (L·Layout .turned) (C·Charge .within)) (length (now (rows .entry))) (charges (now (rows .exit))) (cells (now (rows .exit))) (positions (now (rows .exit))) m × Put (waitsOf (charges (now (rows .entry))) (positions (now (rows .entry))) len) (waitsOf (charges (now (rows .exit))) (positions (now (rows .exit))) m) cell charge) (λ e. (e ≡ NoSuchCell) × (length (now (rows .entry)) ≤ cell) × (now (rows .exit) ≡ now (rows .entry))) ⌝ }
+    requires { ⌜ RowOrder (L·Layout .up) (ranked (L·Layout .turned) (C·Charge .within)) (length (now rows)) (now rows) len ⌝ }
+    ensures { λ r. ⌜ Cases r (λ m. (cell < length (now (rows .entry))) × RowOrder (L·Layout .up) (ranked (L·Layout .turned) (C·Charge .within)) (length (now (rows .entry))) (now (rows .exit)) m × Put (waiting (now (rows .entry)) len) (waiting (now (rows .exit)) m) cell charge) (λ e. (e ≡ NoSuchCell) × (length (now (rows .entry)) ≤ cell) × (now (rows .exit) ≡ now (rows .entry))) ⌝ }
 {
     if cell >= rows.len() {
         return Err(Refusal::NoSuchCell);
@@ -116,8 +116,8 @@ pub fn standing<C: Charge>(rows: &[Slot<C>], position: usize) -> Option<(usize, 
 
 // The cell at the top, with its charge, leaves; none where no cell waits.
 pub fn take_top<C: Charge, L: Layout>(rows: &mut [Slot<C>], len: usize) -> Option<(usize, C)>
-    requires { ⌜ InOrder (L·Layout .up) (ranked (L·Layout .turned) (C·Charge .within)) (length (now rows)) (charges (now rows)) (cells (now rows)) (positions (now rows)) len ⌝ }
-    ensures { λ r. ⌜ BySome r ((len ≡ 0) × (now (rows .exit) ≡ now (rows .entry))) (λ p. (0 < len) × (p .0 < length (now (rows .entry))) × InOrder (L·Layout .up) (ranked (L·Layout .turned) (C·Charge .within)) (length (now (rows .entry))) (charges (now (rows .exit))) (cells (now (rows .exit))) (positions (now (rows .exit))) (len - 1) × Taken (ranked (L·Layout .turned) (C·Charge .within)) (waitsOf (charges (now (rows .entry))) (positions (now (rows .entry))) len) (waitsOf (charges (now (rows .exit))) (positions (now (rows .exit))) (len - 1)) (p .0) (p .1)) ⌝ }
+    requires { ⌜ RowOrder (L·Layout .up) (ranked (L·Layout .turned) (C·Charge .within)) (length (now rows)) (now rows) len ⌝ }
+    ensures { λ r. ⌜ BySome r ((len ≡ 0) × (now (rows .exit) ≡ now (rows .entry))) (λ p. (0 < len) × (p .0 < length (now (rows .entry))) × RowOrder (L·Layout .up) (ranked (L·Layout .turned) (C·Charge .within)) (length (now (rows .entry))) (now (rows .exit)) (len - 1) × Taken (ranked (L·Layout .turned) (C·Charge .within)) (waiting (now (rows .entry)) len) (waiting (now (rows .exit)) (len - 1)) (p .0) (p .1)) ⌝ }
 {
     if len == 0 {
         return None;

@@ -1,6 +1,6 @@
 // One figure of one row, read or written, and the exchange of what stands at two positions.
 ghost use mathlib.Core.Path.{_≡_};
-ghost use Prim.Native.Nat.{ℕ, _<_};
+ghost use Prim.Native.Nat.{_<_};
 ghost use lib.ListN.{length, getD, set};
 ghost use Rattle.slots.specs.Rows.{charges, cells, positions};
 ghost use Rattle.slots.specs.Order.{Placed, Exchanged, ranked};

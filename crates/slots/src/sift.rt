@@ -1,7 +1,7 @@
 // A cell that stands too low or too high goes to its position, by exchanges along the tree.
 ghost use mathlib.Core.Path.{_≡_};
-ghost use Prim.Native.Nat.{ℕ, _<_, _≤_};
-ghost use lib.ListN.{length, getD};
+ghost use Prim.Native.Nat.{_<_, _≤_};
+ghost use lib.ListN.{length};
 ghost use Rattle.slots.specs.Rows.{charges, cells, positions};
 ghost use Rattle.slots.specs.Order.{Placed, Ahead, SameWait, Arranged, Rising, Sinking, Foremost, ranked};
 use crate::column::ahead;

@@ -1,12 +1,11 @@
 -- the last cell is read with its charge, and its leaving is the lemma's
-use mathlib.Core.Path.{_≡_, sym, ap, subst, _∙_, refl}
-use Prim.Native.Nat.{ℕ, _-_, _<_, _≤_}
+use mathlib.Core.Path.{sym, ap, subst, _∙_, refl}
+use Prim.Native.Nat.{ℕ, _-_, _<_}
 use native.Mathlib.Omega.{arith}
 use lib.ListN.{length, getD, length-map}
 use Rattle.std.specs.declared.option.Option.{Option}
 use Rattle.std.specs.declared.option.Option.the-variants.{Some, None}
 use Rattle.std.specs.Options.{Cases}
-use Rattle.slots.specs.Order.{ranked}
 use Rattle.slots.specs.Rows.{cells, positions, charges}
 use Rattle.slots.specs.Waiting.{waitsOf}
 use Rattle.queue.specs.Waits.{Taken}

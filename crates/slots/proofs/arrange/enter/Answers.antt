@@ -1,11 +1,11 @@
 -- the charge is written, the cell goes behind those that wait, and then up
 use mathlib.Core.Path.{_≡_, sym, ap, subst, _∙_}
 use mathlib.Core.List.{List}
-use Prim.Native.Nat.{ℕ, _+_, _-_, _<_}
+use Prim.Native.Nat.{ℕ, _+_, _-_}
 use native.Mathlib.Omega.{arith}
-use lib.ListN.{length, getD, set, length-map}
-use Rattle.slots.specs.Order.{Placed, Exchanged, Rising, Sinking, Ahead, Arranged, SameWait, ranked}
-use Rattle.slots.specs.Waiting.{InOrder, waitsOf}
+use lib.ListN.{length, getD, length-map}
+use Rattle.slots.specs.Order.{Placed, Exchanged, Rising, Ahead, Arranged, ranked}
+use Rattle.slots.specs.Waiting.{waitsOf}
 use Rattle.slots.specs.Rows.{cells, positions, charges}
 use Rattle.queue.specs.Waits.{Put}
 use Rattle.slots.proofs.Entry.{room, rising, entered}

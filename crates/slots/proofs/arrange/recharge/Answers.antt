@@ -1,13 +1,10 @@
 -- the charge is written; the cell goes up where it may stand above the old charge, else down
-use mathlib.Core.Path.{_≡_, sym, ap, subst, _∙_}
-use mathlib.Core.List.{List}
-use Prim.Native.Nat.{ℕ, _+_, _-_, _<_}
+use mathlib.Core.Path.{sym, subst}
+use Prim.Native.Nat.{ℕ, _-_}
 use native.Mathlib.Omega.{arith}
-use lib.ListN.{length, getD, set, length-map}
-use Rattle.slots.specs.Order.{Placed, Exchanged, Rising, Sinking, Ahead, Arranged, SameWait, ranked}
-use Rattle.slots.specs.Waiting.{InOrder, waitsOf}
+use lib.ListN.{length, length-map}
+use Rattle.slots.specs.Order.{Placed, Ahead, Arranged, SameWait, ranked}
 use Rattle.slots.specs.Rows.{cells, positions, charges}
-use Rattle.queue.specs.Waits.{Put}
 use Rattle.slots.proofs.Ranks.{ranked-transitive, ranked-total}
 use Rattle.slots.proofs.Recharge.{higher, lower, put-again}
 use Rattle.slots.proofs.arrange.recharge.Needs as need

@@ -1,8 +1,8 @@
 -- one more row settled, and at the end every row holds its own number
-use mathlib.Core.Path.{_≡_, ap, _∙_}
-use Prim.Native.Nat.{ℕ, _<_}
+use mathlib.Core.Path.{ap, _∙_}
+use Prim.Native.Nat.{_<_}
 use native.Mathlib.Omega.{arith}
-use lib.ListN.{length, getD, set, length-map}
+use lib.ListN.{length, getD, length-map}
 use Rattle.std.proofs.shelf.Edits.{fill-by-more}
 use Rattle.slots.specs.Rows.{cells, positions, charges}
 use Rattle.slots.proofs.Entry.{own-positions}

@@ -1,13 +1,10 @@
 -- the cell at the top and the last that waits are exchanged, and the one now at the top goes down
 use mathlib.Core.Path.{_≡_, sym, ap, subst, _∙_}
-use mathlib.Core.List.{List}
-use Prim.Native.Nat.{ℕ, _+_, _-_, _<_}
+use Prim.Native.Nat.{ℕ, _-_, _<_}
 use native.Mathlib.Omega.{arith}
-use lib.ListN.{length, getD, set, length-map}
-use Rattle.slots.specs.Order.{Placed, Exchanged, Rising, Sinking, Ahead, Arranged, SameWait, ranked}
-use Rattle.slots.specs.Waiting.{InOrder, waitsOf}
+use lib.ListN.{length, getD, length-map}
+use Rattle.slots.specs.Order.{Placed, Sinking, Ahead, Arranged, ranked}
 use Rattle.slots.specs.Rows.{cells, positions, charges}
-use Rattle.queue.specs.Waits.{Taken}
 use Rattle.slots.proofs.Ranks.{ranked-transitive, ranked-total, itself}
 use Rattle.slots.proofs.Top.{sinking, top-taken}
 use Rattle.slots.proofs.arrange.take_top.Needs as need

@@ -1,5 +1,4 @@
 -- the two charges that are compared are those of the cells at the two positions
-use mathlib.Core.Path.{_≡_}
 use Rattle.slots.proofs.column.ahead.Needs as need
 
 pub returns : need.returns

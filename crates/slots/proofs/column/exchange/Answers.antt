@@ -1,10 +1,7 @@
 -- four writes make the exchange of two columns, which keeps every cell at one position
-use mathlib.Core.Path.{_≡_, sym, subst, _∙_, ap}
-use mathlib.Core.List.{List}
-use Prim.Native.Nat.{ℕ}
-use native.Mathlib.Omega.{arith}
-use lib.ListN.{length, getD, set, length-set, length-map}
-use Rattle.slots.specs.Order.{Placed, Exchanged}
+use mathlib.Core.Path.{_≡_, _∙_, ap}
+use lib.ListN.{length, getD, set, length-set}
+use Rattle.slots.specs.Order.{Exchanged}
 use Rattle.slots.specs.Rows.{cells, positions, charges}
 use Rattle.slots.proofs.Swaps.{exchanged, placed}
 use Rattle.slots.proofs.column.exchange.Needs as need

@@ -1,12 +1,11 @@
 -- each turn is one step of a fall, which ends where the foremost below may stand there, or where nothing is below
-use mathlib.Core.Path.{_≡_, sym, ap, subst, _∙_}
-use mathlib.Core.Bool.{true, false}
+use mathlib.Core.Path.{subst, _∙_}
 use Prim.Native.Nat.{ℕ, _<_}
 use native.Mathlib.Omega.{arith}
-use lib.ListN.{length, getD}
+use lib.ListN.{length}
 use Rattle.slots.specs.Order.{Ahead, Placed, Foremost, ranked}
 use Rattle.slots.specs.Rows.{cells, positions, charges}
-use Rattle.slots.proofs.Ranks.{ranked-transitive, ranked-total}
+use Rattle.slots.proofs.Ranks.{ahead-transitive, ranked-total}
 use Rattle.slots.proofs.Sink.{sunk, rests, childless}
 use Rattle.slots.proofs.Swaps.{same-wait}
 use Rattle.slots.proofs.sift.sift_down.Needs as need
@@ -16,7 +15,7 @@ returns-then-ahead g c =
     let rank = ranked (g .L·Layout .turned) (g .C·Charge .within) in
     let inv = c .loop-first .inv in
     let R : ℕ → ℕ → Type 0 = Ahead rank (charges (c .args .rows .now)) in
-    let tr : (a b c : ℕ) → R a b → R b c → R a c = λ a b c p q d. ranked-transitive (g .C·Charge .within) (g .C·Charge·met .transitive) (g .L·Layout .turned) _ _ _ (p d) (q d) in
+    let tr = ahead-transitive (g .C·Charge .within) (g .C·Charge·met .transitive) (g .L·Layout .turned) (charges (c .args .rows .now)) in
     let cs = cells (c .loop-first .rows) in
     let l = subst (λ ch. Foremost (g .L·Layout .up) (Ahead rank ch) cs (c .args .len) (c .loop-first .i) (c .foremost-low .result)) (inv .0) (c .foremost-low .ensures) in
     record {
@@ -31,7 +30,7 @@ loop-first-again g c =
     let rank = ranked (g .L·Layout .turned) (g .C·Charge .within) in
     let inv = c .loop-first .inv in
     let R : ℕ → ℕ → Type 0 = Ahead rank (charges (c .args .rows .now)) in
-    let tr : (a b c : ℕ) → R a b → R b c → R a c = λ a b c p q d. ranked-transitive (g .C·Charge .within) (g .C·Charge·met .transitive) (g .L·Layout .turned) _ _ _ (p d) (q d) in
+    let tr = ahead-transitive (g .C·Charge .within) (g .C·Charge·met .transitive) (g .L·Layout .turned) (charges (c .args .rows .now)) in
     let i = c .loop-first .i in
     let low = c .foremost-low .result in
     let rows = c .loop-first .rows in
@@ -52,7 +51,7 @@ returns g c =
     let rank = ranked (g .L·Layout .turned) (g .C·Charge .within) in
     let inv = c .loop-first .inv in
     let R : ℕ → ℕ → Type 0 = Ahead rank (charges (c .args .rows .now)) in
-    let tr : (a b c : ℕ) → R a b → R b c → R a c = λ a b c p q d. ranked-transitive (g .C·Charge .within) (g .C·Charge·met .transitive) (g .L·Layout .turned) _ _ _ (p d) (q d) in
+    let tr = ahead-transitive (g .C·Charge .within) (g .C·Charge·met .transitive) (g .L·Layout .turned) (charges (c .args .rows .now)) in
     record {
       charges = inv .0;
       placed = inv .1;

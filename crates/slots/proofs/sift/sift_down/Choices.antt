@@ -1,6 +1,6 @@
 -- the cell at `i` may belong lower, and all else is in order
 use mathlib.Core.Path.{_≡_}
-use Prim.Native.Nat.{_<_, _-_}
+use Prim.Native.Nat.{_-_}
 use lib.ListN.{length}
 use Rattle.slots.specs.Order.{Placed, Sinking, Ahead, SameWait, ranked}
 use Rattle.slots.specs.Rows.{cells, positions, charges}

@@ -1,12 +1,11 @@
 -- each turn is one step of a climb, which ends where the cell above may stand there, or at the top
-use mathlib.Core.Path.{_≡_, sym, ap, subst, _∙_}
-use mathlib.Core.Bool.{true, false}
+use mathlib.Core.Path.{sym, subst, _∙_}
 use Prim.Native.Nat.{ℕ, _<_}
 use native.Mathlib.Omega.{arith}
-use lib.ListN.{length, getD}
+use lib.ListN.{length}
 use Rattle.slots.specs.Order.{Ahead, Placed, Exchanged, Rising, ranked}
 use Rattle.slots.specs.Rows.{cells, positions, charges}
-use Rattle.slots.proofs.Ranks.{ranked-transitive, ranked-total}
+use Rattle.slots.proofs.Ranks.{ahead-transitive, ranked-total}
 use Rattle.slots.proofs.Climb.{risen, settled}
 use Rattle.slots.proofs.Swaps.{same-wait}
 use Rattle.slots.proofs.sift.sift_up.Needs as need
@@ -16,7 +15,7 @@ returns-then-ahead g c =
     let rank = ranked (g .L·Layout .turned) (g .C·Charge .within) in
     let inv = c .loop-i .inv in
     let R : ℕ → ℕ → Type 0 = Ahead rank (charges (c .args .rows .now)) in
-    let tr : (a b c : ℕ) → R a b → R b c → R a c = λ a b c p q d. ranked-transitive (g .C·Charge .within) (g .C·Charge·met .transitive) (g .L·Layout .turned) _ _ _ (p d) (q d) in
+    let tr = ahead-transitive (g .C·Charge .within) (g .C·Charge·met .transitive) (g .L·Layout .turned) (charges (c .args .rows .now)) in
     record {
       charges = inv .1;
       placed = inv .2;
@@ -31,7 +30,7 @@ loop-i-again g c =
     let tree = g .L·Layout·met .tree in
     let inv = c .loop-i .inv in
     let R : ℕ → ℕ → Type 0 = Ahead rank (charges (c .args .rows .now)) in
-    let tr : (a b c : ℕ) → R a b → R b c → R a c = λ a b c p q d. ranked-transitive (g .C·Charge .within) (g .C·Charge·met .transitive) (g .L·Layout .turned) _ _ _ (p d) (q d) in
+    let tr = ahead-transitive (g .C·Charge .within) (g .C·Charge·met .transitive) (g .L·Layout .turned) (charges (c .args .rows .now)) in
     let i = c .loop-i .i in
     let rows = c .loop-i .rows in
     let last = c .exchange .last .rows in
