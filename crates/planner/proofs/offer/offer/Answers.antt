@@ -1,0 +1,40 @@
+use mathlib.Core.Path.{_≡_, refl, sym, subst}
+use Rattle.search.specs.Rows.{Offering}
+use Prim.Native.Nat.{_<_}
+use native.Mathlib.Omega.{arith}
+use lib.ListN.{length, length-map}
+use Rattle.std.specs.declared.result.Result.{Result}
+use Rattle.std.specs.declared.result.Result.the-variants.{Ok, Err}
+use Rattle.site.specs.Whole.{kindOf}
+use Rattle.search.specs.Search.{Laws}
+use Rattle.search.specs.Columns.{cellsOf}
+use Rattle.search.proofs.Tables.{offered-over, offered-none, ok-since}
+use Rattle.planner.proofs.offer.offer.Needs as need
+
+pub returns-then-better : need.returns-then-better
+returns-then-better g c =
+    let met = g .C·Charge·met in
+    let laws : Laws (kindOf (g .C·Charge)) = record { total = met .total; transitive = met .transitive; monotone = met .monotone; rising = met .rising } in
+    let size = length-map (c .args .cells .now) (λ r. r .cell) in
+    let inside : c .args .at < length (cellsOf (c .args .cells .now)) = omega (arith, c .pre .inside) in
+    record {
+      ordered = c .put .ensures .ordered;
+      many = c .put .ensures .many;
+      index = c .set-row .ensures .index;
+      offered = subst (λ rs. Offering (kindOf (g .C·Charge)) (cellsOf (c .args .cells .now)) rs (g .Q·PriorityQueue .waits (c .args .queue .now)) (g .Q·PriorityQueue .waits (c .put .last .self)) (c .args .at) (c .args .new)) (sym (c .set-row .ensures .cells)) (offered-over _ laws ((cellsOf (c .args .cells .now))) _ _ (c .args .at) (c .row-at-old .result) (c .args .new) inside (c .row-at-old .ensures) (c .pre .agree) (c .pre .waiting) (sym (c .if-better .ensures tt))
+        (ok-since (c .put .result) _ _ (c .put .ensures .answer) (λ e. omega (arith, e .0, c .pre .room)) .1));
+    }
+
+pub returns-else-better : need.returns-else-better
+returns-else-better g c =
+    let met = g .C·Charge·met in
+    let laws : Laws (kindOf (g .C·Charge)) = record { total = met .total; transitive = met .transitive; monotone = met .monotone; rising = met .rising } in
+    let waits = g .Q·PriorityQueue .waits (c .args .queue .now) in
+    let size = length-map (c .args .cells .now) (λ r. r .cell) in
+    let inside : c .args .at < length (cellsOf (c .args .cells .now)) = omega (arith, c .pre .inside) in
+    record {
+      ordered = c .pre .ordered;
+      many = refl;
+      index = record { heads = refl; nexts = refl };
+      offered = offered-none _ laws ((cellsOf (c .args .cells .now))) waits waits (c .args .at) (c .row-at-old .result) (c .args .new) inside (c .row-at-old .ensures) (c .pre .agree) (c .pre .waiting) (sym (c .if-better .ensures tt)) (c .pre .low);
+    }

@@ -1,0 +1,5 @@
+pub mod Cells
+pub mod Search
+pub mod Rows
+pub mod Columns
+pub mod Index
