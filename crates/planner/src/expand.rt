@@ -10,15 +10,6 @@ ghost use Rattle.search.specs.Search.{Covered, Searching, Keeps, Offered};
 ghost use Rattle.search.specs.Rows.{Turn, Room, Books, doneIn, settledCount};
 ghost use Rattle.search.specs.Columns.{cellsOf, headsOf, nextsOf, SameIndex};
 ghost use Rattle.search.specs.Index.{Indexed};
-use charge::kind::Charge;
-use queue::queue::PriorityQueue;
-use site::run::Step;
-use site::site::Site;
-use site::run::Request;
-use site::way::Way;
-use search::cell::Cell;
-use search::cell::Row;
-use search::cell::State;
 use crate::index::head_at;
 use crate::index::next_at;
 use crate::index::smaller;
@@ -27,8 +18,17 @@ use crate::number::loss_after;
 use crate::number::loss_of;
 use crate::number::place_of;
 use crate::offer::offer;
+use charge::kind::Charge;
+use queue::queue::PriorityQueue;
+use search::cell::Cell;
+use search::cell::Row;
+use search::cell::State;
+use site::run::Request;
+use site::run::Step;
+use site::site::Site;
+use site::way::Way;
 
-// What `sum` becomes over the way `w`, with a mark at its end or without.
+// A sum with the charge of a way joined to it and then, if marked, that of the repeater where the way arrives.
 fn charge_after<S: Site>(site: &S, sum: S::Charge, mark: bool, w: Way<S::Charge>) -> S::Charge
     ensures { λ r. ⌜ r ≡ afterWay (kindOf Charge·Charge) (S·Site .meaning (now (site .entry))) sum mark (Some w) ⌝ }
 {
@@ -42,6 +42,7 @@ fn charge_after<S: Site>(site: &S, sum: S::Charge, mark: bool, w: Way<S::Charge>
     }
 }
 
+// Whether a repeater may be marked at a place: one can stand there, and it is neither the start nor the end.
 fn markable<S: Site>(site: &S, request: Request, place: usize) -> bool
     ensures yes { λ r. ⌜ (r ≡ true → Markable (S·Site .meaning (now (site .entry))) request place) ⌝ }
     ensures back { λ r. ⌜ (Markable (S·Site .meaning (now (site .entry))) request place → r ≡ true) ⌝ }
@@ -49,36 +50,65 @@ fn markable<S: Site>(site: &S, request: Request, place: usize) -> bool
     place != request.start && place != request.end && site.repeater(place).is_some()
 }
 
-// The cell where the step over `w` from the cell `at` leads is offered.
-fn arrive<S: Site, Q: PriorityQueue<Charge = S::Charge>>(site: &S, request: Request, cells: &mut [Row<S::Charge>], queue: &mut Q, at: usize, here: Cell<S::Charge>, step: Step, w: Way<S::Charge>)
+// Offers the cell to which a lawful step over the way `w` leads from the settled cell `at`.
+fn arrive<S: Site, Q: PriorityQueue<Charge = S::Charge>>(
+    site: &S,
+    request: Request,
+    cells: &mut [Row<S::Charge>],
+    queue: &mut Q,
+    at: usize,
+    here: Cell<S::Charge>,
+    step: Step,
+    w: Way<S::Charge>,
+)
     requires room { ⌜ Room (S·Site .meaning (now site)) request (length (now cells)) (Q·PriorityQueue .many (now queue)) ⌝ }
     requires ordered { ⌜ Q·PriorityQueue .ordered (now queue) ⌝ }
-    requires turn { ⌜ Turn (kindOf Charge·Charge) (S·Site .meaning (now site)) request (cellsOf (now cells)) (Q·PriorityQueue .waits (now queue)) at here 0 ⌝ }
+    requires turn { ⌜ Turn (kindOf Charge·Charge) (S·Site .meaning (now site)) request (cellsOf (now cells)) (Q·PriorityQueue .waits (now queue)) at here ⌝ }
     requires goes { ⌜ Goes (S·Site .meaning (now site)) request (placeOf request at) (lossOf request at) step w ⌝ }
     ensures ordered { λ _. ⌜ Q·PriorityQueue .ordered (now (queue .exit)) ⌝ }
     ensures many { λ _. ⌜ Q·PriorityQueue .many (now (queue .exit)) ≡ Q·PriorityQueue .many (now (queue .entry)) ⌝ }
     ensures index { λ _. ⌜ SameIndex (now (cells .entry)) (now (cells .exit)) ⌝ }
     ensures count { λ _. ⌜ settledCount (cellsOf (now (cells .exit))) ≡ settledCount (cellsOf (now (cells .entry))) ⌝ }
-    ensures turn { λ _. ⌜ Turn (kindOf Charge·Charge) (S·Site .meaning (now (site .entry))) request (cellsOf (now (cells .exit))) (Q·PriorityQueue .waits (now (queue .exit))) at here 0 ⌝ }
+    ensures turn { λ _. ⌜ Turn (kindOf Charge·Charge) (S·Site .meaning (now (site .entry))) request (cellsOf (now (cells .exit))) (Q·PriorityQueue .waits (now (queue .exit))) at here ⌝ }
     ensures keeps { λ _. ⌜ Keeps (kindOf Charge·Charge) request (doneIn (cellsOf (now (cells .entry)))) (Q·PriorityQueue .waits (now (queue .entry))) (doneIn (cellsOf (now (cells .exit)))) (Q·PriorityQueue .waits (now (queue .exit))) ⌝ }
     ensures covered { λ _. ⌜ Covered (kindOf Charge·Charge) request (doneIn (cellsOf (now (cells .exit)))) (Q·PriorityQueue .waits (now (queue .exit))) (w .to) (lossAfter (step .mark) (lossOf request at + w .loss)) (afterWay (kindOf Charge·Charge) (S·Site .meaning (now (site .entry))) (here .charge) (step .mark) (Some w)) ⌝ }
 {
-    let loss = loss_after(request, at, step.mark, w.loss);
+    let loss = loss_after(request, at, step.mark, w.loss as usize);
     let target = cell_of(request, w.to, loss);
     let charge = charge_after(site, here.charge, step.mark, w);
-    offer(cells, queue, target, Cell { charge, state: State::Waiting, from: at, way: step.way, mark: step.mark, steps: here.steps + 1 });
+    offer(
+        cells,
+        queue,
+        target,
+        Cell {
+            charge,
+            state: State::Waiting,
+            from: at,
+            way: step.way,
+            mark: step.mark,
+            steps: here.steps + 1,
+        },
+    );
 }
 
-// The way `n` is offered from the cell `at`, without a mark and with one.
-fn offer_way<S: Site, Q: PriorityQueue<Charge = S::Charge>>(site: &S, request: Request, cells: &mut [Row<S::Charge>], queue: &mut Q, at: usize, here: Cell<S::Charge>, n: usize)
+// Offers the way `n` from the settled cell `at`: without a mark and, where one may stand, with a mark too.
+fn offer_way<S: Site, Q: PriorityQueue<Charge = S::Charge>>(
+    site: &S,
+    request: Request,
+    cells: &mut [Row<S::Charge>],
+    queue: &mut Q,
+    at: usize,
+    here: Cell<S::Charge>,
+    n: usize,
+)
     requires room { ⌜ Room (S·Site .meaning (now site)) request (length (now cells)) (Q·PriorityQueue .many (now queue)) ⌝ }
     requires ordered { ⌜ Q·PriorityQueue .ordered (now queue) ⌝ }
-    requires turn { ⌜ Turn (kindOf Charge·Charge) (S·Site .meaning (now site)) request (cellsOf (now cells)) (Q·PriorityQueue .waits (now queue)) at here 0 ⌝ }
+    requires turn { ⌜ Turn (kindOf Charge·Charge) (S·Site .meaning (now site)) request (cellsOf (now cells)) (Q·PriorityQueue .waits (now queue)) at here ⌝ }
     ensures ordered { λ _. ⌜ Q·PriorityQueue .ordered (now (queue .exit)) ⌝ }
     ensures many { λ _. ⌜ Q·PriorityQueue .many (now (queue .exit)) ≡ Q·PriorityQueue .many (now (queue .entry)) ⌝ }
     ensures index { λ _. ⌜ SameIndex (now (cells .entry)) (now (cells .exit)) ⌝ }
     ensures count { λ _. ⌜ settledCount (cellsOf (now (cells .exit))) ≡ settledCount (cellsOf (now (cells .entry))) ⌝ }
-    ensures turn { λ _. ⌜ Turn (kindOf Charge·Charge) (S·Site .meaning (now (site .entry))) request (cellsOf (now (cells .exit))) (Q·PriorityQueue .waits (now (queue .exit))) at here 0 ⌝ }
+    ensures turn { λ _. ⌜ Turn (kindOf Charge·Charge) (S·Site .meaning (now (site .entry))) request (cellsOf (now (cells .exit))) (Q·PriorityQueue .waits (now (queue .exit))) at here ⌝ }
     ensures keeps { λ _. ⌜ Keeps (kindOf Charge·Charge) request (doneIn (cellsOf (now (cells .entry)))) (Q·PriorityQueue .waits (now (queue .entry))) (doneIn (cellsOf (now (cells .exit)))) (Q·PriorityQueue .waits (now (queue .exit))) ⌝ }
     ensures offered { λ _. ⌜ Offered (kindOf Charge·Charge) (S·Site .meaning (now (site .entry))) request (doneIn (cellsOf (now (cells .exit)))) (Q·PriorityQueue .waits (now (queue .exit))) at (here .charge) n ⌝ }
 {
@@ -86,23 +116,51 @@ fn offer_way<S: Site, Q: PriorityQueue<Charge = S::Charge>>(site: &S, request: R
         if w.from != place_of(request, at) {
             return;
         }
-        if loss_of(request, at) + w.loss > request.bound {
+        if loss_of(request, at) + w.loss as usize > request.bound {
             return;
         }
-        arrive(site, request, cells, queue, at, here, Step { way: n, mark: false }, w);
+        arrive(
+            site,
+            request,
+            cells,
+            queue,
+            at,
+            here,
+            Step {
+                way: n,
+                mark: false,
+            },
+            w,
+        );
         if markable(site, request, w.to) {
-            arrive(site, request, cells, queue, at, here, Step { way: n, mark: true }, w);
+            arrive(
+                site,
+                request,
+                cells,
+                queue,
+                at,
+                here,
+                Step { way: n, mark: true },
+                w,
+            );
         }
     }
 }
 
-// Every way out of the settled cell `at` is offered.
-pub fn expand<S: Site, Q: PriorityQueue<Charge = S::Charge>>(site: &S, request: Request, cells: &mut [Row<S::Charge>], queue: &mut Q, at: usize, here: Cell<S::Charge>)
+// Offers every way out of the settled cell `at`: first those past the index, one by one, then those that the index has.
+pub fn expand<S: Site, Q: PriorityQueue<Charge = S::Charge>>(
+    site: &S,
+    request: Request,
+    cells: &mut [Row<S::Charge>],
+    queue: &mut Q,
+    at: usize,
+    here: Cell<S::Charge>,
+)
     requires room { ⌜ Room (S·Site .meaning (now site)) request (length (now cells)) (Q·PriorityQueue .many (now queue)) ⌝ }
     requires indexed { ⌜ Indexed (S·Site .meaning (now site)) (headsOf (now cells)) (nextsOf (now cells)) (min (S·Site .meaning (now site) .ways) (length (now cells))) ⌝ }
     requires inside { ⌜ at < length (now cells) ⌝ }
     requires ordered { ⌜ Q·PriorityQueue .ordered (now queue) ⌝ }
-    requires turn { ⌜ Turn (kindOf Charge·Charge) (S·Site .meaning (now site)) request (cellsOf (now cells)) (Q·PriorityQueue .waits (now queue)) at here 0 ⌝ }
+    requires turn { ⌜ Turn (kindOf Charge·Charge) (S·Site .meaning (now site)) request (cellsOf (now cells)) (Q·PriorityQueue .waits (now queue)) at here ⌝ }
     ensures ordered { λ _. ⌜ Q·PriorityQueue .ordered (now (queue .exit)) ⌝ }
     ensures many { λ _. ⌜ Q·PriorityQueue .many (now (queue .exit)) ≡ Q·PriorityQueue .many (now (queue .entry)) ⌝ }
     ensures index { λ _. ⌜ SameIndex (now (cells .entry)) (now (cells .exit)) ⌝ }

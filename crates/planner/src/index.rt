@@ -1,19 +1,21 @@
-// The index of the ways by the place that they leave.
+// The index of the ways by the place that they leave, kept inside the rows of working memory.
 ghost use mathlib.Core.Path.{_≡_};
 ghost use Prim.Native.Nat.{ℕ, _<_, _≤_, _+_, min};
 ghost use lib.ListN.{length, getD, set};
 ghost use Rattle.search.specs.Columns.{cellsOf, headsOf, nextsOf};
 ghost use Rattle.search.specs.Index.{Indexed};
 use charge::kind::Charge;
-use site::site::Site;
 use search::cell::Row;
+use site::site::Site;
 
+// The smaller of two numbers.
 pub fn smaller(a: usize, b: usize) -> usize
     ensures { λ r. ⌜ r ≡ min a b ⌝ }
 {
     if a < b { a } else { b }
 }
 
+// One more than the largest indexed way that leaves the place `at`, or 0.
 pub fn head_at<C: Charge>(cells: &[Row<C>], at: usize) -> usize
     requires { ⌜ at < length (now cells) ⌝ }
     ensures { λ r. ⌜ r ≡ getD (headsOf (now (cells .entry))) at 0 ⌝ }
@@ -21,6 +23,7 @@ pub fn head_at<C: Charge>(cells: &[Row<C>], at: usize) -> usize
     cells[at].head
 }
 
+// One more than the next smaller way that leaves the same place as the way `at`, or 0.
 pub fn next_at<C: Charge>(cells: &[Row<C>], at: usize) -> usize
     requires { ⌜ at < length (now cells) ⌝ }
     ensures { λ r. ⌜ r ≡ getD (nextsOf (now (cells .entry))) at 0 ⌝ }
@@ -46,7 +49,7 @@ fn set_next<C: Charge>(cells: &mut [Row<C>], at: usize, next: usize)
     cells[at].next = next;
 }
 
-// The way `n` is entered above those below it.
+// Enters the way `n` into an index of the ways below it.
 fn enter_way<S: Site>(site: &S, cells: &mut [Row<S::Charge>], n: usize)
     requires inside { ⌜ n < length (now cells) ⌝ }
     requires places { ⌜ S·Site .meaning (now site) .places ≤ length (now cells) ⌝ }
@@ -61,7 +64,7 @@ fn enter_way<S: Site>(site: &S, cells: &mut [Row<S::Charge>], n: usize)
     }
 }
 
-// The ways are entered, as far as there are rows.
+// Enters all ways into an empty index, as far as there are rows for their numbers.
 pub fn build<S: Site>(site: &S, cells: &mut [Row<S::Charge>])
     requires places { ⌜ S·Site .meaning (now site) .places ≤ length (now cells) ⌝ }
     requires empty { ⌜ ((p : ℕ) → getD (headsOf (now cells)) p 0 ≡ 0) ⌝ }

@@ -14,6 +14,7 @@ use search::cell::Cell;
 use search::cell::Row;
 use search::cell::State;
 
+// What is known of the cell `at`.
 pub fn row_at<C: Charge>(cells: &[Row<C>], at: usize) -> Cell<C>
     requires { ⌜ at < length (now cells) ⌝ }
     ensures { λ r. ⌜ nth (cellsOf (now (cells .entry))) at ≡ Some r ⌝ }
@@ -21,6 +22,7 @@ pub fn row_at<C: Charge>(cells: &[Row<C>], at: usize) -> Cell<C>
     cells[at].cell
 }
 
+// Writes what is known of the cell `at`.
 pub fn set_row<C: Charge>(cells: &mut [Row<C>], at: usize, row: Cell<C>)
     requires { ⌜ at < length (now cells) ⌝ }
     ensures cells { λ _. ⌜ cellsOf (now (cells .exit)) ≡ set (cellsOf (now (cells .entry))) at row ⌝ }
@@ -29,6 +31,7 @@ pub fn set_row<C: Charge>(cells: &mut [Row<C>], at: usize, row: Cell<C>)
     cells[at].cell = row;
 }
 
+// Whether a cell is to be reached anew with this charge: it was never reached, or waits with more.
 fn better<C: Charge>(old: Cell<C>, charge: C) -> bool
     ensures { λ r. ⌜ r ≡ improvesAs (kindOf C·Charge) (old .state) (old .charge) charge ⌝ }
 {
@@ -39,8 +42,13 @@ fn better<C: Charge>(old: Cell<C>, charge: C) -> bool
     }
 }
 
-// The row `new` is entered at the cell `at`, unless that is settled or waits with no more.
-pub fn offer<C: Charge, Q: PriorityQueue<Charge = C>>(cells: &mut [Row<C>], queue: &mut Q, at: usize, new: Cell<C>)
+// Offers the cell `at`: `new` is written there and waits, unless the cell is settled or waits with no more.
+pub fn offer<C: Charge, Q: PriorityQueue<Charge = C>>(
+    cells: &mut [Row<C>],
+    queue: &mut Q,
+    at: usize,
+    new: Cell<C>,
+)
     requires inside { ⌜ at < length (now cells) ⌝ }
     requires room { ⌜ at < Q·PriorityQueue .many (now queue) ⌝ }
     requires ordered { ⌜ Q·PriorityQueue .ordered (now queue) ⌝ }

@@ -1,44 +1,78 @@
 ghost use mathlib.Core.Path.{_≡_};
-ghost use mathlib.Core.List.{List};
-ghost use Prim.Native.Nat.{ℕ, _<_, _≤_, _+_};
-ghost use lib.ListN.{length, take, drop};
+ghost use Prim.Native.Nat.{ℕ, _<_, _≤_};
+ghost use lib.ListN.{length};
 ghost use Rattle.std.specs.Results.{Cases};
+ghost use Rattle.refusal.specs.declared.Refusal.the-variants.{NoRun};
 ghost use Rattle.site.specs.Whole.{kindOf};
-ghost use Rattle.planner.specs.Outcome.{Planning, Refusing, Accepted};
-ghost use Rattle.search.specs.Columns.{cellsOf, headsOf, nextsOf, SameIndex};
-use charge::kind::Charge;
-use queue::queue::PriorityQueue;
-use site::run::Step;
-use site::site::Site;
-use site::run::Request;
-use search::cell::Cell;
-use search::cell::Row;
-use crate::refusal::Refusal;
+ghost use Rattle.search.specs.Rows.{Room};
+ghost use Rattle.planner.specs.Outcome.{needed, Passed, Stopped, Handed, NoLawful, Outcome};
+use crate::planned::Planned;
 use crate::seek::seek;
 use crate::start::begin;
 use crate::trace::trace;
-use crate::trace::Planned;
+use charge::kind::Charge;
+use queue::queue::PriorityQueue;
+use refusal::Refusal;
+use search::cell::Row;
+use site::run::Request;
+use site::run::Step;
+use site::site::Site;
 
-// A least run of the request, written into the first rows of `run`.
-pub fn plan<S: Site, Q: PriorityQueue<Charge = S::Charge>>(site: &S, request: Request, cells: &mut [Row<S::Charge>], queue: &mut Q, run: &mut [Step]) -> Result<Planned<S::Charge>, Refusal>
-    ensures many { λ _. ⌜ Q·PriorityQueue .many (now (queue .exit)) ≡ Q·PriorityQueue .many (now (queue .entry)) ⌝ }
-    ensures accepted { λ r. ⌜ Cases r (λ _. Accepted (S·Site .meaning (now (site .entry))) request (length (now (cells .entry))) (Q·PriorityQueue .many (now (queue .entry))) (length (now (run .entry)))) (λ _. Unit {0}) ⌝ }
-    ensures answer { λ r. ⌜ Cases r (λ p. Planning (kindOf Charge·Charge) (S·Site .meaning (now (site .entry))) request (now (run .entry)) (now (run .exit)) p) (λ e. Refusing e (S·Site .meaning (now (site .entry))) request (now (cells .entry)) (now (cells .exit)) (now (queue .entry)) (now (queue .exit)) (Q·PriorityQueue .many (now (queue .entry))) (now (run .entry)) (now (run .exit))) ⌝ }
+// How many rows of each sort a request needs, or the first cause that speaks against a search for it.
+fn rows_needed<S: Site>(
+    site: &S,
+    request: Request,
+    cells: usize,
+    many: usize,
+    steps: usize,
+) -> Result<usize, Refusal>
+    ensures { λ r. ⌜ Cases r (λ n. Passed (S·Site .meaning (now (site .entry))) request cells many steps × (n ≡ needed (S·Site .meaning (now (site .entry))) request)) (λ e. Stopped (S·Site .meaning (now (site .entry))) request cells many steps e) ⌝ }
 {
     let places = site.places();
     if request.start >= places || request.end >= places {
         return Err(Refusal::NoSuchPlace);
     }
-    if request.bound > 65535 {
-        return Err(Refusal::TooMuchLoss);
+    if request.bound == 0 || request.bound > 1000 {
+        return Err(Refusal::WrongBound);
     }
-    let needed = places * (request.bound + 1);
-    if cells.len() < needed || queue.cells() < needed || run.len() < cells.len() {
+    let rows = places * (request.bound + 1);
+    if cells < rows || many < rows || steps < rows {
         return Err(Refusal::TooFewRows);
     }
+    Ok(rows)
+}
+
+// Searches for a least run where there is room for every cell, and writes it.
+fn search<S: Site, Q: PriorityQueue<Charge = S::Charge>>(
+    site: &S,
+    request: Request,
+    cells: &mut [Row<S::Charge>],
+    queue: &mut Q,
+    run: &mut [Step],
+) -> Result<Planned<S::Charge>, Refusal>
+    requires room { ⌜ Room (S·Site .meaning (now site)) request (length (now cells)) (Q·PriorityQueue .many (now queue)) ⌝ }
+    requires start { ⌜ request .start < S·Site .meaning (now site) .places ⌝ }
+    requires steps { ⌜ length (now cells) ≤ length (now run) ⌝ }
+    ensures many { λ _. ⌜ Q·PriorityQueue .many (now (queue .exit)) ≡ Q·PriorityQueue .many (now (queue .entry)) ⌝ }
+    ensures answer { λ r. ⌜ Cases r (λ p. Handed (kindOf Charge·Charge) (S·Site .meaning (now (site .entry))) request (now (run .entry)) (now (run .exit)) p) (λ e. (e ≡ NoRun) × NoLawful (S·Site .meaning (now (site .entry))) request × (now (run .exit) ≡ now (run .entry))) ⌝ }
+{
     begin(site, request, cells, queue);
     match seek(site, request, cells, queue) {
         None => Err(Refusal::NoRun),
         Some(last) => Ok(trace(site, &request, cells, last, run)),
     }
+}
+
+// Plans a least run for the request. The cell rows and the queue are working memory: whatever they hold is overwritten.
+pub fn plan<S: Site, Q: PriorityQueue<Charge = S::Charge>>(
+    site: &S,
+    request: Request,
+    cells: &mut [Row<S::Charge>],
+    queue: &mut Q,
+    run: &mut [Step],
+) -> Result<Planned<S::Charge>, Refusal>
+    ensures { λ r. ⌜ Outcome (kindOf Charge·Charge) (S·Site .meaning (now (site .entry))) request (Q·PriorityQueue .many (now (queue .entry))) (Q·PriorityQueue .many (now (queue .exit))) (now (cells .entry)) (now (cells .exit)) (now (queue .entry)) (now (queue .exit)) (now (run .entry)) (now (run .exit)) r ⌝ }
+{
+    let rows = rows_needed(site, request, cells.len(), queue.rows(), run.len())?;
+    search(site, request, &mut cells[..rows], queue, run)
 }

@@ -10,31 +10,45 @@ ghost use Rattle.search.specs.Search.{Searching};
 ghost use Rattle.search.specs.Rows.{Room, Books, Settling, Found, doneIn};
 ghost use Rattle.search.specs.Columns.{cellsOf, headsOf, nextsOf, SameIndex};
 ghost use Rattle.search.specs.Index.{Indexed};
-use charge::kind::Charge;
-use queue::queue::PriorityQueue;
-use site::site::Site;
-use site::run::Request;
-use search::cell::Cell;
-use search::cell::Row;
-use search::cell::State;
-use crate::visit::visit;
 use crate::number::place_of;
 use crate::offer::row_at;
 use crate::offer::set_row;
+use crate::visit::visit;
+use charge::kind::Charge;
+use queue::queue::PriorityQueue;
+use search::cell::Cell;
+use search::cell::Row;
+use search::cell::State;
+use site::run::Request;
+use site::site::Site;
 
+// Settles the cell `at` as it stands, and answers what is known of it.
 fn settle<C: Charge>(cells: &mut [Row<C>], at: usize) -> Cell<C>
     requires { ⌜ at < length (now cells) ⌝ }
     ensures index { λ _. ⌜ SameIndex (now (cells .entry)) (now (cells .exit)) ⌝ }
     ensures settling { λ r. ⌜ Settling (cellsOf (now (cells .entry))) (cellsOf (now (cells .exit))) at r ⌝ }
 {
     let old = row_at(cells, at);
-    let here = Cell { charge: old.charge, state: State::Settled, from: old.from, way: old.way, mark: old.mark, steps: old.steps };
+    let here = Cell {
+        charge: old.charge,
+        state: State::Settled,
+        from: old.from,
+        way: old.way,
+        mark: old.mark,
+        steps: old.steps,
+    };
     set_row(cells, at, here);
     here
 }
 
-// Takes the lowest cell again and again, until it is one of the end, or nothing waits.
-pub fn seek<S: Site, Q: PriorityQueue<Charge = S::Charge>>(site: &S, request: Request, cells: &mut [Row<S::Charge>], queue: &mut Q) -> Option<usize>
+// Takes a lowest waiting cell again and again until one of the end is taken, which it answers, or none waits: then there
+// is no lawful run.
+pub fn seek<S: Site, Q: PriorityQueue<Charge = S::Charge>>(
+    site: &S,
+    request: Request,
+    cells: &mut [Row<S::Charge>],
+    queue: &mut Q,
+) -> Option<usize>
     requires room { ⌜ Room (S·Site .meaning (now site)) request (length (now cells)) (Q·PriorityQueue .many (now queue)) ⌝ }
     requires indexed { ⌜ Indexed (S·Site .meaning (now site)) (headsOf (now cells)) (nextsOf (now cells)) (min (S·Site .meaning (now site) .ways) (length (now cells))) ⌝ }
     requires ordered { ⌜ Q·PriorityQueue .ordered (now queue) ⌝ }

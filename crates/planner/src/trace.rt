@@ -6,20 +6,16 @@ ghost use Rattle.site.specs.Runs.{Least, NoneTwice};
 ghost use Rattle.site.specs.Whole.{kindOf};
 ghost use Rattle.search.specs.Rows.{Found};
 ghost use Rattle.search.specs.Columns.{cellsOf, headsOf, nextsOf, SameIndex};
+use crate::offer::row_at;
+use crate::planned::Planned;
 use charge::kind::Charge;
-use site::run::Step;
-use site::site::Site;
-use site::run::Request;
 use search::cell::Cell;
 use search::cell::Row;
-use crate::offer::row_at;
+use site::run::Request;
+use site::run::Step;
+use site::site::Site;
 
-#[derive(Clone, Copy)]
-pub struct Planned<C> {
-    pub total: C,
-    pub steps: usize,
-}
-
+// Writes one step.
 fn put_step(run: &mut [Step], at: usize, step: Step)
     requires { ⌜ at < length (now run) ⌝ }
     ensures { λ _. ⌜ now (run .exit) ≡ set (now (run .entry)) at step ⌝ }
@@ -27,8 +23,14 @@ fn put_step(run: &mut [Step], at: usize, step: Step)
     run[at] = step;
 }
 
-// The run that led to the cell `last` is written, from its back.
-pub fn trace<S: Site>(site: &S, request: &Request, cells: &[Row<S::Charge>], last: usize, run: &mut [Step]) -> Planned<S::Charge>
+// Writes the run that led to the cell `last`, from its last step to its first, and answers its length and its total.
+pub fn trace<S: Site>(
+    site: &S,
+    request: &Request,
+    cells: &[Row<S::Charge>],
+    last: usize,
+    run: &mut [Step],
+) -> Planned<S::Charge>
     requires found { ⌜ Found (kindOf Charge·Charge) (S·Site .meaning (now site)) (now request) (cellsOf (now cells)) last ⌝ }
     requires room { ⌜ length (now cells) ≤ length (now run) ⌝ }
     ensures steps { λ r. ⌜ r .steps ≤ length (now (run .entry)) ⌝ }
@@ -42,8 +44,18 @@ pub fn trace<S: Site>(site: &S, request: &Request, cells: &[Row<S::Charge>], las
     while left > 0 {
         let row = row_at(cells, at);
         left -= 1;
-        put_step(run, left, Step { way: row.way, mark: row.mark });
+        put_step(
+            run,
+            left,
+            Step {
+                way: row.way,
+                mark: row.mark,
+            },
+        );
         at = row.from;
     }
-    Planned { total: end.charge, steps: end.steps }
+    Planned {
+        steps: end.steps,
+        total: end.charge,
+    }
 }

@@ -9,24 +9,26 @@ ghost use Rattle.search.specs.Columns.{cellsOf, headsOf, nextsOf, SameIndex};
 ghost use Rattle.search.specs.declared.cell.State.{State};
 ghost use Rattle.search.specs.declared.cell.State.the-variants.{Settled};
 ghost use Rattle.search.specs.Index.{Indexed};
-use charge::kind::Charge;
-use queue::queue::PriorityQueue;
-use site::site::Site;
-use site::run::Request;
-use search::cell::Cell;
-use search::cell::Row;
-use search::cell::State;
 use crate::expand::expand;
 use crate::number::loss_of;
 use crate::number::place_of;
 use crate::offer::row_at;
+use charge::kind::Charge;
+use queue::queue::PriorityQueue;
+use search::cell::Cell;
+use search::cell::Row;
+use search::cell::State;
+use site::run::Request;
+use site::site::Site;
 
+// The cell that the row of the place `at` hints at; it may be any number.
 fn hint_at<C: Charge>(cells: &[Row<C>], at: usize) -> usize
     requires { ⌜ at < length (now cells) ⌝ }
 {
     cells[at].hint
 }
 
+// Lets the row of the place `at` hint at a cell.
 fn set_hint<C: Charge>(cells: &mut [Row<C>], at: usize, hint: usize)
     requires { ⌜ at < length (now cells) ⌝ }
     ensures cells { λ _. ⌜ cellsOf (now (cells .exit)) ≡ cellsOf (now (cells .entry)) ⌝ }
@@ -35,6 +37,7 @@ fn set_hint<C: Charge>(cells: &mut [Row<C>], at: usize, hint: usize)
     cells[at].hint = hint;
 }
 
+// Whether a state is that of a settled cell.
 fn is_settled(state: State) -> bool
     ensures { λ r. ⌜ (r ≡ true → state ≡ Settled) ⌝ }
 {
@@ -45,9 +48,10 @@ fn is_settled(state: State) -> bool
     }
 }
 
-// Whether the cell that the place's row hints at dominates the cell `at`. The hint may be anything.
+// Whether the cell that the place's row hints at dominates the cell `at`: it is another one of the same place, settled,
+// with no more loss. Everything about the hint is looked at, so it need not be a good one.
 fn dominated<C: Charge>(request: Request, cells: &[Row<C>], at: usize) -> bool
-    requires bound { ⌜ request .bound ≤ 65535 ⌝ }
+    requires bound { ⌜ request .bound ≤ 1000 ⌝ }
     requires inside { ⌜ at < length (now cells) ⌝ }
     ensures { λ r. ⌜ (r ≡ true → Dominated request (doneIn (cellsOf (now (cells .entry)))) at) ⌝ }
 {
@@ -62,13 +66,21 @@ fn dominated<C: Charge>(request: Request, cells: &[Row<C>], at: usize) -> bool
     is_settled(row_at(cells, hint).state)
 }
 
-// The settled cell `at` is expanded, unless it is dominated.
-pub fn visit<S: Site, Q: PriorityQueue<Charge = S::Charge>>(site: &S, request: Request, cells: &mut [Row<S::Charge>], queue: &mut Q, at: usize, here: Cell<S::Charge>)
+// Offers the ways out of the cell `at`, which was settled just now, unless it is dominated: then each of them leads where
+// the dominating cell's has led with no more loss for no more.
+pub fn visit<S: Site, Q: PriorityQueue<Charge = S::Charge>>(
+    site: &S,
+    request: Request,
+    cells: &mut [Row<S::Charge>],
+    queue: &mut Q,
+    at: usize,
+    here: Cell<S::Charge>,
+)
     requires room { ⌜ Room (S·Site .meaning (now site)) request (length (now cells)) (Q·PriorityQueue .many (now queue)) ⌝ }
     requires indexed { ⌜ Indexed (S·Site .meaning (now site)) (headsOf (now cells)) (nextsOf (now cells)) (min (S·Site .meaning (now site) .ways) (length (now cells))) ⌝ }
     requires inside { ⌜ at < length (now cells) ⌝ }
     requires ordered { ⌜ Q·PriorityQueue .ordered (now queue) ⌝ }
-    requires turn { ⌜ Turn (kindOf Charge·Charge) (S·Site .meaning (now site)) request (cellsOf (now cells)) (Q·PriorityQueue .waits (now queue)) at here 0 ⌝ }
+    requires turn { ⌜ Turn (kindOf Charge·Charge) (S·Site .meaning (now site)) request (cellsOf (now cells)) (Q·PriorityQueue .waits (now queue)) at here ⌝ }
     ensures ordered { λ _. ⌜ Q·PriorityQueue .ordered (now (queue .exit)) ⌝ }
     ensures many { λ _. ⌜ Q·PriorityQueue .many (now (queue .exit)) ≡ Q·PriorityQueue .many (now (queue .entry)) ⌝ }
     ensures index { λ _. ⌜ SameIndex (now (cells .entry)) (now (cells .exit)) ⌝ }

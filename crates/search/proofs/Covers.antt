@@ -22,7 +22,6 @@ use Rattle.search.specs.Cells.{placeOf, lossOf}
 use Rattle.search.specs.Search.{Laws, Covered, stepOf, Offered, Searching, Expanding, Entered, Dominated}
 
 module _ {C : Type 0} (k : Kind C) (laws : Laws k) where
-
   pub same : (a : C) → k .within a a ≡ true
   same a = ⊎-elim (λ e. e) (λ e. laws .total a a e) (cases-bool (k .within a a))
 
@@ -52,7 +51,6 @@ module _ {C : Type 0} (k : Kind C) (laws : Laws k) where
   step-monotone m a b false (Some w) h = laws .monotone a b (w .charge) h
 
   module _ (m : SiteMeaning C) (ask : Request) where
-
     -- with no less loss, and no less charge
     pub covered-up : {done waits : ℕ → Option C} {p l : ℕ} {sum : C} (l′ : ℕ) (sum′ : C) → l ≤ l′ → k .within sum sum′ ≡ true → Covered k ask done waits p l sum → Covered k ask done waits p l′ sum′
     covered-up l′ sum′ h w g = record {
@@ -86,12 +84,14 @@ module _ {C : Type 0} (k : Kind C) (laws : Laws k) where
     unfolding Told
     told done waits inv [] p l sum g e =
         elim (g .held) [
-          inl d ↦ inr (g .cell, g .charge, d, g .place ∙ e)
-        | inr w ↦ inl (g .cell, g .charge, w, g .low) ]
+          | inl d ↦ inr (g .cell, g .charge, d, g .place ∙ e)
+          | inr w ↦ inl (g .cell, g .charge, w, g .low)
+        ]
     told done waits inv (s ∷ rest) p l sum g lawful =
         elim (g .held) [
-          inl d ↦ told done waits inv rest (lawful .0 .to) (lossAfter (s .mark) (l + lawful .0 .loss)) (afterWay k m sum (s .mark) (m .way (s .way))) (next d) (lawful .2)
-        | inr w ↦ inl (g .cell, g .charge, w, laws .transitive _ _ _ (g .low) (run-rises m (s ∷ rest) sum)) ]
+          | inl d ↦ told done waits inv rest (lawful .0 .to) (lossAfter (s .mark) (l + lawful .0 .loss)) (afterWay k m sum (s .mark) (m .way (s .way))) (next d) (lawful .2)
+          | inr w ↦ inl (g .cell, g .charge, w, laws .transitive _ _ _ (g .low) (run-rises m (s ∷ rest) sum))
+        ]
       where
         next : done (g .cell) ≡ Some (g .charge) → Covered k ask done waits (lawful .0 .to) (lossAfter (s .mark) (l + lawful .0 .loss)) (afterWay k m sum (s .mark) (m .way (s .way)))
         next d =
@@ -99,7 +99,7 @@ module _ {C : Type 0} (k : Kind C) (laws : Laws k) where
             let loss = g .loss in
             let o = inv .offered (g .cell) (g .charge) d (s .way) (s .mark) w (goes-from _ _ s w (g .place) loss (lawful .1)) in
             let up : k .within (afterWay k m (g .charge) (s .mark) (Some w)) (afterWay k m sum (s .mark) (m .way (s .way))) ≡ true =
-              rw (lawful .1 .opens) (step-monotone m _ _ (s .mark) (Some w) (g .low)) in
+            rw (lawful .1 .opens) (step-monotone m _ _ (s .mark) (Some w) (g .low)) in
             covered-up _ _ (after-up (s .mark) _ _ (omega arith)) up o
 
     -- (iii) nothing waits: no run is lawful
@@ -107,16 +107,18 @@ module _ {C : Type 0} (k : Kind C) (laws : Laws k) where
     unfolding Told
     no-run done waits inv none run lawful =
         elim (told done waits inv run (ask .start) 0 (k .free) (inv .started) lawful) [
-          inl a ↦ (let e = none (a .0) in let f = a .2 in let z : _≡_ {A = ℕ} 0 1 = cc in omega arith)
-        | inr b ↦ inv .open-end (b .0) (b .1) (b .2) (b .3) ]
+          | inl a ↦ (let e = none (a .0) in let f = a .2 in let z : _≡_ {A = ℕ} 0 1 = cc in omega arith)
+          | inr b ↦ inv .open-end (b .0) (b .1) (b .2) (b .3)
+        ]
 
     -- (ii) a lowest waiting charge is no more than the total of any lawful run
     pub lowest : (done waits : ℕ → Option C) (c : C) → Searching k m ask done waits → ((x : ℕ) (d : C) → waits x ≡ Some d → k .within c d ≡ true) → Lowest k m ask c
     unfolding Told
     lowest done waits c inv least run lawful =
         elim (told done waits inv run (ask .start) 0 (k .free) (inv .started) lawful) [
-          inl a ↦ laws .transitive _ _ _ (least (a .0) (a .1) (a .2)) (a .3)
-        | inr b ↦ absurd (inv .open-end (b .0) (b .1) (b .2) (b .3)) ]
+          | inl a ↦ laws .transitive _ _ _ (least (a .0) (a .1) (a .2)) (a .3)
+          | inr b ↦ absurd (inv .open-end (b .0) (b .1) (b .2) (b .3))
+        ]
 
     -- what was covered stays so, if each label is covered in the new state
     pub covered-kept : (done waits done′ waits′ : ℕ → Option C)
@@ -153,18 +155,20 @@ module _ {C : Type 0} (k : Kind C) (laws : Laws k) where
 
     module _ (done waits done′ waits′ : ℕ → Option C) (x : ℕ) (c : C)
         (inv : Searching k m ask done waits) (fresh : done x ≡ None) (taken : Taken (k .within) waits waits′ x c) (put : Put done done′ x c) where
-
       take-labels : (y : ℕ) (d : C) → (done y ≡ Some d) ⊎ (waits y ≡ Some d) → Covered k ask done′ waits′ (placeOf ask y) (lossOf ask y) d
       take-labels y d h =
           elim (cases-eq y x) [
-            inl e ↦ elim h [
-              inl f ↦ absurd (let q : done y ≡ None = ap done e ∙ fresh in let z : _≡_ {A = ℕ} 0 1 = cc in omega arith)
-            | inr f ↦ let q : waits y ≡ Some c = ap waits e ∙ taken .waited in
-                let cd : c ≡ d = cc in
-                itself done′ waits′ y d (inl (ap done′ e ∙ put .here ∙ ap Some cd)) ]
-          | inr ne ↦ elim h [
-              inl f ↦ itself done′ waits′ y d (inl (put .others y ne ∙ f))
-            | inr f ↦ itself done′ waits′ y d (inr (taken .others y ne ∙ f)) ] ]
+            | inl e ↦ elim h [
+              | inl f ↦ absurd (let q : done y ≡ None = ap done e ∙ fresh in let z : _≡_ {A = ℕ} 0 1 = cc in omega arith)
+              | inr f ↦ let q : waits y ≡ Some c = ap waits e ∙ taken .waited in
+                  let cd : c ≡ d = cc in
+                  itself done′ waits′ y d (inl (ap done′ e ∙ put .here ∙ ap Some cd))
+            ]
+            | inr ne ↦ elim h [
+              | inl f ↦ itself done′ waits′ y d (inl (put .others y ne ∙ f))
+              | inr f ↦ itself done′ waits′ y d (inr (taken .others y ne ∙ f))
+            ]
+          ]
 
       take-covered : {p l : ℕ} {sum : C} → Covered k ask done waits p l sum → Covered k ask done′ waits′ p l sum
       take-covered = covered-kept done waits done′ waits′ take-labels
@@ -179,26 +183,30 @@ module _ {C : Type 0} (k : Kind C) (laws : Laws k) where
         settled = put .here;
         offered = λ y d e a i mark w g. take-covered (inv .offered y d (was y d e a) i mark w g);
         below = λ y d e. elim (cases-eq y x) [
-            inl a ↦ let q : done′ y ≡ Some c = ap done′ a ∙ put .here in let dc : d ≡ c = cc in rw dc (same c)
-          | inr a ↦ inv .ordered y x d c (was y d e a) (taken .waited) ];
+          | inl a ↦ let q : done′ y ≡ Some c = ap done′ a ∙ put .here in let dc : d ≡ c = cc in rw dc (same c)
+          | inr a ↦ inv .ordered y x d c (was y d e a) (taken .waited)
+        ];
         above = λ y d e. elim (cases-eq y x) [
-            inl a ↦ absurd (let q : waits′ y ≡ None = ap waits′ a ∙ taken .gone in let z : _≡_ {A = ℕ} 0 1 = cc in omega arith)
-          | inr a ↦ taken .least y d (sym (taken .others y a) ∙ e) ];
+          | inl a ↦ absurd (let q : waits′ y ≡ None = ap waits′ a ∙ taken .gone in let z : _≡_ {A = ℕ} 0 1 = cc in omega arith)
+          | inr a ↦ taken .least y d (sym (taken .others y a) ∙ e)
+        ];
         open-end = λ y d e. elim (cases-eq y x) [
-            inl a ↦ (λ q. ne (ap (placeOf ask) (sym a) ∙ q))
-          | inr a ↦ inv .open-end y d (was y d e a) ];
+          | inl a ↦ (λ q. ne (ap (placeOf ask) (sym a) ∙ q))
+          | inr a ↦ inv .open-end y d (was y d e a)
+        ];
       }
 
     module _ (done waits waits′ : ℕ → Option C) (y : ℕ) (d : C) (en : Entered k done waits waits′ y d) where
-
       offer-labels : (z : ℕ) (e : C) → (done z ≡ Some e) ⊎ (waits z ≡ Some e) → Covered k ask done waits′ (placeOf ask z) (lossOf ask z) e
       offer-labels z e h =
           elim h [
-            inl f ↦ itself done waits′ z e (inl f)
-          | inr f ↦ elim (cases-eq z y) [
-              inl a ↦ let b = en .better e (ap waits (sym a) ∙ f) in
-                record { cell = z; charge = b .0; place = refl; loss = omega arith; low = b .2; held = inr (ap waits′ a ∙ b .1) }
-            | inr a ↦ itself done waits′ z e (inr (en .others z a ∙ f)) ] ]
+            | inl f ↦ itself done waits′ z e (inl f)
+            | inr f ↦ elim (cases-eq z y) [
+              | inl a ↦ let b = en .better e (ap waits (sym a) ∙ f) in
+                  record { cell = z; charge = b .0; place = refl; loss = omega arith; low = b .2; held = inr (ap waits′ a ∙ b .1) }
+              | inr a ↦ itself done waits′ z e (inr (en .others z a ∙ f))
+            ]
+          ]
 
       pub offer-covered : {p l : ℕ} {sum : C} → Covered k ask done waits p l sum → Covered k ask done waits′ p l sum
       offer-covered = covered-kept done waits done waits′ offer-labels
@@ -215,10 +223,12 @@ module _ {C : Type 0} (k : Kind C) (laws : Laws k) where
         offered = λ z e f a i mark w g. offer-covered (inv .offered z e f a i mark w g);
         below = inv .below;
         above = λ z e f. elim (cases-eq z y) [
-            inl a ↦ elim (en .from e (ap waits′ (sym a) ∙ f)) [
-              inl b ↦ rw b up
-            | inr b ↦ inv .above y e b ]
-          | inr a ↦ inv .above z e (sym (en .others z a) ∙ f) ];
+          | inl a ↦ elim (en .from e (ap waits′ (sym a) ∙ f)) [
+            | inl b ↦ rw b up
+            | inr b ↦ inv .above y e b
+          ]
+          | inr a ↦ inv .above z e (sym (en .others z a) ∙ f)
+        ];
         open-end = inv .open-end;
       }
 
@@ -227,11 +237,13 @@ module _ {C : Type 0} (k : Kind C) (laws : Laws k) where
     expanded done waits x c b inv all = record {
       started = inv .started;
       offered = λ y d e i. elim (cases-eq y x) [
-          inl a ↦ (λ mark w g. elim (cases-lt i (m .ways)) [
-              inl h ↦ let q : done y ≡ Some c = ap done a ∙ inv .settled in let dc : d ≡ c = cc in
-                rw (a, dc) (all i h mark w (rw (← a) g))
-            | inr h ↦ absurd (let f = b .no-way i h in let o = g .opens in let z : _≡_ {A = ℕ} 0 1 = cc in omega arith) ])
-        | inr a ↦ inv .offered y d e a i ];
+        | inl a ↦ (λ mark w g. elim (cases-lt i (m .ways)) [
+          | inl h ↦ let q : done y ≡ Some c = ap done a ∙ inv .settled in let dc : d ≡ c = cc in
+              rw (a, dc) (all i h mark w (rw (← a) g))
+          | inr h ↦ absurd (let f = b .no-way i h in let o = g .opens in let z : _≡_ {A = ℕ} 0 1 = cc in omega arith)
+        ])
+        | inr a ↦ inv .offered y d e a i
+      ];
       ordered = λ y z d e f g. laws .transitive _ _ _ (inv .below y d f) (inv .above z e g);
       open-end = inv .open-end;
     }
@@ -241,16 +253,17 @@ module _ {C : Type 0} (k : Kind C) (laws : Laws k) where
     skipped done waits x c inv dom = record {
       started = inv .started;
       offered = λ y d e i. elim (cases-eq y x) [
-          inl a ↦ (λ mark w g.
+        | inl a ↦ (λ mark w g.
             let q : done y ≡ Some c = ap done a ∙ inv .settled in
             let dc : c ≡ d = cc in
             let loss = dom .loss in
             let place : placeOf ask (dom .cell) ≡ placeOf ask y = dom .place ∙ ap (placeOf ask) (sym a) in
             let less : lossOf ask (dom .cell) ≤ lossOf ask y = (let z : lossOf ask y ≡ lossOf ask x = ap (lossOf ask) a in omega arith) in
             covered-up _ _ (after-up mark _ _ (omega arith))
-              (step-monotone m (dom .charge) d mark (Some w) (subst (λ z. k .within (dom .charge) z ≡ true) dc (inv .below (dom .cell) (dom .charge) (dom .settled))))
-              (inv .offered (dom .cell) (dom .charge) (dom .settled) (dom .apart) i mark w (goes-from _ _ _ w place less g)))
-        | inr a ↦ inv .offered y d e a i ];
+            (step-monotone m (dom .charge) d mark (Some w) (subst (λ z. k .within (dom .charge) z ≡ true) dc (inv .below (dom .cell) (dom .charge) (dom .settled))))
+            (inv .offered (dom .cell) (dom .charge) (dom .settled) (dom .apart) i mark w (goes-from _ _ _ w place less g)))
+        | inr a ↦ inv .offered y d e a i
+      ];
       ordered = λ y z d e f g. laws .transitive _ _ _ (inv .below y d f) (inv .above z e g);
       open-end = inv .open-end;
     }

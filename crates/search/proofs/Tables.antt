@@ -42,7 +42,6 @@ nth-set-same (x ∷ xs) (suc i) a h = nth-set-same xs i a (omega arith)
 
 module _ {C : Type 0} (k : Kind C) (laws : Laws k) (rows : List (Cell C)) (waits waits′ : ℕ → Option C) (at : ℕ) (old new : Cell C)
     (inside : at < length rows) (row : nth rows at ≡ Some old) (agree : Agree rows waits) (waiting : new .state ≡ Waiting) where
-
   -- a row that is to be written over is not settled, and did not wait with less
   clear-of : (s : State) (d : C) → improvesAs k s d (new .charge) ≡ true → settledAs s d ≡ None
   clear-of Unseen d h = refl
@@ -68,8 +67,9 @@ module _ {C : Type 0} (k : Kind C) (laws : Laws k) (rows : List (Cell C)) (waits
       others = put .others;
     };
     agree = λ x. elim (cases-eq x at) [
-        inl e ↦ ap waits′ e ∙ put .here ∙ sym (ap (λ s. waitsAs s (new .charge)) waiting) ∙ sym (ap waitsRow (nth-set-same rows at new inside)) ∙ ap (λ y. waitsRow (nth (set rows at new) y)) (sym e)
-      | inr ne ↦ put .others x ne ∙ agree x ∙ ap waitsRow (sym (nth-set-other rows at x new ne)) ];
+      | inl e ↦ ap waits′ e ∙ put .here ∙ sym (ap (λ s. waitsAs s (new .charge)) waiting) ∙ sym (ap waitsRow (nth-set-same rows at new inside)) ∙ ap (λ y. waitsRow (nth (set rows at new) y)) (sym e)
+      | inr ne ↦ put .others x ne ∙ agree x ∙ ap waitsRow (sym (nth-set-other rows at x new ne))
+    ];
     change = inr (refl, ap settledRow row ∙ clear-of (old .state) (old .charge) h);
   }
 
@@ -103,9 +103,10 @@ ok-since (Err e) P Q h n = absurd (n e h)
 pub blank-more : {C : Type 0} (rows : List (Cell C)) (i : ℕ) (new : Cell C) → i < length rows → new .state ≡ Unseen → Blank rows i → Blank (set rows i new) (i + 1)
 blank-more {C} rows i new inside s b x r h e =
     elim (cases-eq x i) [
-      inl a ↦ (let q : Some new ≡ Some r = sym (nth-set-same rows i new inside) ∙ ap (nth (set rows i new)) (sym a) ∙ e in
-        let n : new ≡ r = cc in ap (λ (z : Cell C). z .state) (sym n) ∙ s)
-    | inr ne ↦ b x r (omega arith) (sym (nth-set-other rows i x new ne) ∙ e) ]
+      | inl a ↦ (let q : Some new ≡ Some r = sym (nth-set-same rows i new inside) ∙ ap (nth (set rows i new)) (sym a) ∙ e in
+          let n : new ≡ r = cc in ap (λ (z : Cell C). z .state) (sym n) ∙ s)
+      | inr ne ↦ b x r (omega arith) (sym (nth-set-other rows i x new ne) ∙ e)
+    ]
 
 -- a column of rows, read
 pub nth-column : {A B : Type 0} (f : A → B) (rows : List A) (i : ℕ) (d : A) → i < length rows → nth (map f rows) i ≡ Some (f (getD rows i d))

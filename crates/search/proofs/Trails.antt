@@ -31,12 +31,10 @@ one-cell ask x y p l =
     sym (div-add-mod' x (ask .bound + 1)) ∙ ap (λ q. q * (ask .bound + 1) + x % (ask .bound + 1)) p ∙ ap (λ r. y / (ask .bound + 1) * (ask .bound + 1) + r) l ∙ div-add-mod' y (ask .bound + 1)
 
 module _ {C : Type 0} (k : Kind C) (m : SiteMeaning C) (ask : Request) (rows : List (Cell C)) where
-
   pub trail-end : (x : ℕ) (f : Found k m ask rows x) → Trail k m ask rows x (f .last) [] (f .last .charge)
   trail-end x f = record { lawful = f .end; comes-to = refl; avoids = λ y q e h. tt; once = tt }
 
   module _ (x : ℕ) (r : Cell C) (rest : List Step) (sum : C) (n : Next k m ask rows x r) (tr : Trail k m ask rows x r rest sum) where
-
     step : Step
     step = stepOf (r .way) (r .mark)
 
@@ -54,12 +52,13 @@ module _ {C : Type 0} (k : Kind C) (m : SiteMeaning C) (ask : Request) (rows : L
     trail-back = record {
       lawful = (n .over, n .goes, subst (λ (p : ℕ). Lawful m ask p (lossAfter (r .mark) (lossOf ask (r .from) + n .over .loss)) rest) (n .place) (subst (λ (l : ℕ). Lawful m ask (placeOf ask x) l rest) (n .loss) (tr .lawful)));
       comes-to = ap (λ o. totalFrom k m (afterWay k m (n .before .charge) (r .mark) o) rest) (n .goes .opens) ∙ ap (λ c. totalFrom k m c rest) (sym (n .charge)) ∙ tr .comes-to;
-      avoids = λ y q e h.
-        ((λ a b. let same : r .from ≡ y = one-cell ask (r .from) y a b in
-           let s : n .before ≡ q = some-same (sym (n .row) ∙ ap (nth rows) same ∙ e) in
-           let u : n .before .steps ≡ q .steps = ap (λ (z : Cell C). z .steps) s in
-           omega arith),
-         avoided y q e (let s = n .steps in omega arith));
+      avoids = λ y q e h. (
+        (λ a b. let same : r .from ≡ y = one-cell ask (r .from) y a b in
+            let s : n .before ≡ q = some-same (sym (n .row) ∙ ap (nth rows) same ∙ e) in
+            let u : n .before .steps ≡ q .steps = ap (λ (z : Cell C). z .steps) s in
+            omega arith),
+        avoided y q e (let s = n .steps in omega arith),
+      );
       once = (avoided (r .from) (n .before) (n .row) (let s = n .steps in omega arith), rw (there, lost) (tr .once));
     }
 

@@ -97,25 +97,28 @@ count-short (q ∷ qs) (suc at) r e w = let h = count-short qs at r e w in let o
 
 module _ {C : Type 0} (k : Kind C) (laws : Laws k) (m : SiteMeaning C) (ask : Request) (rows rows′ : List (Cell C)) (waits waits′ : ℕ → Option C) (at : ℕ) (new : Cell C)
     (inside : at < length rows) (waiting : new .state ≡ Waiting) (o : Offering k rows rows′ waits waits′ at new) where
-
   pub offer-done : (z : ℕ) → doneIn rows′ z ≡ doneIn rows z
   unfolding doneIn
   offer-done z = elim (o .change) [
-      inl e ↦ ap (λ rs. settledRow (nth rs z)) e
+    | inl e ↦ ap (λ rs. settledRow (nth rs z)) e
     | inr p ↦ ap (λ rs. settledRow (nth rs z)) (p .0) ∙ elim (cases-eq z at) [
-          inl e ↦ ap (λ y. settledRow (nth (set rows at new) y)) e ∙ ap settledRow (nth-set-same rows at new inside) ∙ ap (λ s. settledAs s (new .charge)) waiting ∙ sym (p .1) ∙ ap (λ y. settledRow (nth rows y)) (sym e)
-        | inr ne ↦ ap settledRow (nth-set-other rows at z new ne) ] ]
+      | inl e ↦ ap (λ y. settledRow (nth (set rows at new) y)) e ∙ ap settledRow (nth-set-same rows at new inside) ∙ ap (λ s. settledAs s (new .charge)) waiting ∙ sym (p .1) ∙ ap (λ y. settledRow (nth rows y)) (sym e)
+      | inr ne ↦ ap settledRow (nth-set-other rows at z new ne)
+    ]
+  ]
 
   pub offer-count : settledCount rows′ ≡ settledCount rows
   offer-count = elim (o .change) [
-      inl e ↦ ap settledCount e
-    | inr p ↦ ap settledCount (p .0) ∙ count-same rows at new (p .1) waiting ]
+    | inl e ↦ ap settledCount e
+    | inr p ↦ ap settledCount (p .0) ∙ count-same rows at new (p .1) waiting
+  ]
 
   -- a settled row stays
   pub offer-row : (z : ℕ) (r : Cell C) → nth rows z ≡ Some r → r .state ≡ Settled → nth rows′ z ≡ Some r
   offer-row z r e s = elim (o .change) [
-      inl q ↦ ap (λ rs. nth rs z) q ∙ e
-    | inr p ↦ ap (λ rs. nth rs z) (p .0) ∙ nth-set-other rows at z new (λ q. none-some (p .1) (ap (doneIn rows) (sym q) ∙ done-row rows z r e s)) ∙ e ]
+    | inl q ↦ ap (λ rs. nth rs z) q ∙ e
+    | inr p ↦ ap (λ rs. nth rs z) (p .0) ∙ nth-set-other rows at z new (λ q. none-some (p .1) (ap (doneIn rows) (sym q) ∙ done-row rows z r e s)) ∙ e
+  ]
 
   next-kept : (z : ℕ) (r : Cell C) → Next k m ask rows z r → Next k m ask rows′ z r
   next-kept z r n = record {
@@ -136,22 +139,25 @@ module _ {C : Type 0} (k : Kind C) (laws : Laws k) (m : SiteMeaning C) (ask : Re
   -- a row afterwards: it was there before, or it is the new one
   was : (z : ℕ) (r : Cell C) → nth rows′ z ≡ Some r → (nth rows z ≡ Some r) ⊎ ((z ≡ at) × (r ≡ new))
   was z r e = elim (o .change) [
-      inl q ↦ inl (ap (λ rs. nth rs z) (sym q) ∙ e)
+    | inl q ↦ inl (ap (λ rs. nth rs z) (sym q) ∙ e)
     | inr p ↦ elim (cases-eq z at) [
-          inl a ↦ inr (a, some-same (sym e ∙ ap (λ rs. nth rs z) (p .0) ∙ ap (nth (set rows at new)) a ∙ nth-set-same rows at new inside))
-        | inr ne ↦ inl (sym (nth-set-other rows at z new ne) ∙ ap (λ rs. nth rs z) (sym (p .0)) ∙ e) ] ]
+      | inl a ↦ inr (a, some-same (sym e ∙ ap (λ rs. nth rs z) (p .0) ∙ ap (nth (set rows at new)) a ∙ nth-set-same rows at new inside))
+      | inr ne ↦ inl (sym (nth-set-other rows at z new ne) ∙ ap (λ rs. nth rs z) (sym (p .0)) ∙ e)
+    ]
+  ]
 
   module _ (b : Books k m ask rows waits) (link : Next k m ask rows at new) (few : new .steps ≤ settledCount rows) where
-
     pub offer-books : Books k m ask rows′ waits′
     offer-books = record {
       agree = o .agree;
       linked = λ z r e s. elim (was z r e) [
-          inl q ↦ linked-kept z r (b .linked z r q s)
-        | inr p ↦ rw (p .0, p .1) (linked-kept at new (inr link)) ];
+        | inl q ↦ linked-kept z r (b .linked z r q s)
+        | inr p ↦ rw (p .0, p .1) (linked-kept at new (inr link))
+      ];
       few = λ z r e s. elim (was z r e) [
-          inl q ↦ (let f = b .few z r q s in let c = offer-count in omega arith)
-        | inr p ↦ (let c = offer-count in let w : oneIf (r .state) ≡ 0 = ap (λ (q : Cell C). oneIf (q .state)) (p .1) ∙ ap oneIf waiting in let v : r .steps ≡ new .steps = ap (λ (q : Cell C). q .steps) (p .1) in omega arith) ];
+        | inl q ↦ (let f = b .few z r q s in let c = offer-count in omega arith)
+        | inr p ↦ (let c = offer-count in let w : oneIf (r .state) ≡ 0 = ap (λ (q : Cell C). oneIf (q .state)) (p .1) ∙ ap oneIf waiting in let v : r .steps ≡ new .steps = ap (λ (q : Cell C). q .steps) (p .1) in omega arith)
+      ];
     }
 
   pub offer-turn : (x : ℕ) (here : Cell C) → Turn k m ask rows waits x here → k .within (here .charge) (new .charge) ≡ true → Next k m ask rows at new → new .steps ≤ settledCount rows → Turn k m ask rows′ waits′ x here
@@ -170,7 +176,6 @@ module _ {C : Type 0} (k : Kind C) (laws : Laws k) (m : SiteMeaning C) (ask : Re
 
 module _ {C : Type 0} (k : Kind C) (laws : Laws k) (m : SiteMeaning C) (ask : Request) (rows rows′ : List (Cell C)) (waits waits′ : ℕ → Option C) (at : ℕ) (c : C) (here : Cell C)
     (inside : at < length rows) (b : Books k m ask rows waits) (taken : Taken (k .within) waits waits′ at c) (s : Settling rows rows′ at here) where
-
   pub was-waiting : (s .old .state ≡ Waiting) × (s .old .charge ≡ c)
   was-waiting =
       let w = row-waits rows at c (sym (b .agree at) ∙ taken .waited) in
@@ -221,22 +226,25 @@ module _ {C : Type 0} (k : Kind C) (laws : Laws k) (m : SiteMeaning C) (ask : Re
 
   kept-linked : (z : ℕ) (r r′ : Cell C) → r .from ≡ r′ .from → r .way ≡ r′ .way → r .mark ≡ r′ .mark → r .charge ≡ r′ .charge → r .steps ≡ r′ .steps → Linked k m ask rows z r → Linked k m ask rows′ z r′
   kept-linked z r r′ e1 e2 e3 e4 e5 l = elim l [
-      inl f ↦ inl (record { place = f .place; loss = f .loss; steps = sym e5 ∙ f .steps; charge = sym e4 ∙ f .charge })
-    | inr n ↦ inr (kept-next z r r′ e1 e2 e3 e4 e5 n) ]
+    | inl f ↦ inl (record { place = f .place; loss = f .loss; steps = sym e5 ∙ f .steps; charge = sym e4 ∙ f .charge })
+    | inr n ↦ inr (kept-next z r r′ e1 e2 e3 e4 e5 n)
+  ]
 
   settle-books : Books k m ask rows′ waits′
   settle-books = record {
     agree = λ x. elim (cases-eq x at) [
-        inl e ↦ ap waits′ e ∙ taken .gone ∙ sym (ap (λ q. waitsAs q (here .charge)) here-settled) ∙ sym (ap waitsRow here-row) ∙ ap (λ y. waitsRow (nth rows′ y)) (sym e)
-      | inr ne ↦ taken .others x ne ∙ b .agree x ∙ ap waitsRow (sym (other-row x ne)) ];
+      | inl e ↦ ap waits′ e ∙ taken .gone ∙ sym (ap (λ q. waitsAs q (here .charge)) here-settled) ∙ sym (ap waitsRow here-row) ∙ ap (λ y. waitsRow (nth rows′ y)) (sym e)
+      | inr ne ↦ taken .others x ne ∙ b .agree x ∙ ap waitsRow (sym (other-row x ne))
+    ];
     linked = λ z r e q. elim (cases-eq z at) [
-        inl a ↦ (
+      | inl a ↦ (
           let h : here ≡ r = some-same (sym here-row ∙ ap (nth rows′) (sym a) ∙ e) in
           let g : asSettled (s .old) ≡ r = sym (s .new) ∙ h in
           rw a (kept-linked at (s .old) r (ap (λ (w : Cell C). w .from) g) (ap (λ (w : Cell C). w .way) g) (ap (λ (w : Cell C). w .mark) g) (ap (λ (w : Cell C). w .charge) g) (ap (λ (w : Cell C). w .steps) g) (b .linked at (s .old) (s .row) (waiting-unseen (was-waiting .0)))))
-      | inr ne ↦ kept-linked z r r refl refl refl refl refl (b .linked z r (sym (other-row z ne) ∙ e) q) ];
+      | inr ne ↦ kept-linked z r r refl refl refl refl refl (b .linked z r (sym (other-row z ne) ∙ e) q)
+    ];
     few = λ z r e q. elim (cases-eq z at) [
-        inl a ↦ (
+      | inl a ↦ (
           let h : here ≡ r = some-same (sym here-row ∙ ap (nth rows′) (sym a) ∙ e) in
           let g : asSettled (s .old) ≡ r = sym (s .new) ∙ h in
           let n = settle-count in
@@ -244,7 +252,8 @@ module _ {C : Type 0} (k : Kind C) (laws : Laws k) (m : SiteMeaning C) (ask : Re
           let u : s .old .steps ≡ r .steps = ap (λ (w : Cell C). w .steps) g in
           let v : 1 ≡ oneIf (r .state) = ap (λ (w : Cell C). oneIf (w .state)) g in
           omega arith)
-      | inr ne ↦ (let n = settle-count in let f = b .few z r (sym (other-row z ne) ∙ e) q in omega arith) ];
+      | inr ne ↦ (let n = settle-count in let f = b .few z r (sym (other-row z ne) ∙ e) q in omega arith)
+    ];
   }
 
   pub settle-turn : Searching k m ask (doneIn rows) waits → placeOf ask at ≢ ask .end → Turn k m ask rows′ waits′ at here
@@ -263,12 +272,10 @@ steps-few k m ask rows waits x here turn =
     omega arith
 
 module _ {C : Type 0} (k : Kind C) (laws : Laws k) (m : SiteMeaning C) (ask : Request) (done waits : ℕ → Option C) (x : ℕ) (c : C) (n : ℕ) where
-
   pub none-offered : m .way n ≡ None → Offered k m ask done waits x c n
   none-offered e mark w g = absurd (none-some e (g .opens))
 
   module _ (w : Way C) (e : m .way n ≡ Some w) where
-
     pub away-offered : (w .from ≡ placeOf ask x → ⊥) → Offered k m ask done waits x c n
     away-offered ne mark v g = absurd (ne (ap (λ (z : Way C). z .from) (some-same (sym e ∙ g .opens)) ∙ g .leaves))
 
@@ -291,7 +298,6 @@ nth-inside (y ∷ ys) (suc i) x e = let h = nth-inside ys i x e in omega arith
 -- a cell that is taken: its row waits
 module _ {C : Type 0} (k : Kind C) (laws : Laws k) (m : SiteMeaning C) (ask : Request) (rows : List (Cell C)) (waits waits′ : ℕ → Option C) (at : ℕ) (c : C)
     (b : Books k m ask rows waits) (taken : Taken (k .within) waits waits′ at c) where
-
   taken-row : (r : Cell C) × (nth rows at ≡ Some r) × (r .state ≡ Waiting) × (r .charge ≡ c)
   taken-row = row-waits rows at c (sym (b .agree at) ∙ taken .waited)
 
@@ -318,7 +324,6 @@ module _ {C : Type 0} (k : Kind C) (laws : Laws k) (m : SiteMeaning C) (ask : Re
 module _ {C : Type 0} (k : Kind C) (laws : Laws k) (m : SiteMeaning C) (ask : Request) (rows rows′ : List (Cell C)) (empty waits : ℕ → Option C) (at : ℕ) (new : Cell C)
     (inside : at < length rows) (blank : Blank rows (length rows)) (written : rows′ ≡ set rows at new) (none : (x : ℕ) → empty x ≡ None) (put : Put empty waits at (k .free))
     (waiting : new .state ≡ Waiting) (charge : new .charge ≡ k .free) (steps : new .steps ≡ 0) (place : placeOf ask at ≡ ask .start) (loss : lossOf ask at ≡ 0) where
-
   new-row : nth rows′ at ≡ Some new
   new-row = ap (λ rs. nth rs at) written ∙ nth-set-same rows at new inside
 
@@ -330,8 +335,9 @@ module _ {C : Type 0} (k : Kind C) (laws : Laws k) (m : SiteMeaning C) (ask : Re
   -- of any row: it is the new one, or it was not seen
   either : (x : ℕ) (r : Cell C) → nth rows′ x ≡ Some r → ((x ≡ at) × (new ≡ r)) ⊎ (r .state ≡ Unseen)
   either x r e = elim (cases-eq x at) [
-      inl a ↦ inl (a, some-same (sym new-row ∙ ap (nth rows′) (sym a) ∙ e))
-    | inr ne ↦ inr (other-rows x r ne e) ]
+    | inl a ↦ inl (a, some-same (sym new-row ∙ ap (nth rows′) (sym a) ∙ e))
+    | inr ne ↦ inr (other-rows x r ne e)
+  ]
 
   unseen-rows : (o : Option (Cell C)) → ((r : Cell C) → o ≡ Some r → r .state ≡ Unseen) → (settledRow o ≡ None) × (waitsRow o ≡ None)
   unseen-rows None h = (refl, refl)
@@ -340,20 +346,24 @@ module _ {C : Type 0} (k : Kind C) (laws : Laws k) (m : SiteMeaning C) (ask : Re
   none-done : (x : ℕ) → doneIn rows′ x ≡ None
   unfolding doneIn
   none-done x = elim (cases-eq x at) [
-      inl a ↦ ap (λ y. settledRow (nth rows′ y)) a ∙ ap settledRow new-row ∙ ap (λ s. settledAs s (new .charge)) waiting
-    | inr ne ↦ unseen-rows (nth rows′ x) (λ r e. other-rows x r ne e) .0 ]
+    | inl a ↦ ap (λ y. settledRow (nth rows′ y)) a ∙ ap settledRow new-row ∙ ap (λ s. settledAs s (new .charge)) waiting
+    | inr ne ↦ unseen-rows (nth rows′ x) (λ r e. other-rows x r ne e) .0
+  ]
 
   pub start-books : Books k m ask rows′ waits
   start-books = record {
     agree = λ x. elim (cases-eq x at) [
-        inl a ↦ ap waits a ∙ put .here ∙ ap Some (sym charge) ∙ sym (ap (λ s. waitsAs s (new .charge)) waiting) ∙ sym (ap waitsRow new-row) ∙ ap (λ y. waitsRow (nth rows′ y)) (sym a)
-      | inr ne ↦ put .others x ne ∙ none x ∙ sym (unseen-rows (nth rows′ x) (λ r e. other-rows x r ne e) .1) ];
+      | inl a ↦ ap waits a ∙ put .here ∙ ap Some (sym charge) ∙ sym (ap (λ s. waitsAs s (new .charge)) waiting) ∙ sym (ap waitsRow new-row) ∙ ap (λ y. waitsRow (nth rows′ y)) (sym a)
+      | inr ne ↦ put .others x ne ∙ none x ∙ sym (unseen-rows (nth rows′ x) (λ r e. other-rows x r ne e) .1)
+    ];
     linked = λ x r e s. elim (either x r e) [
-        inl p ↦ inl (record { place = ap (placeOf ask) (p .0) ∙ place; loss = ap (lossOf ask) (p .0) ∙ loss; steps = ap (λ (z : Cell C). z .steps) (sym (p .1)) ∙ steps; charge = ap (λ (z : Cell C). z .charge) (sym (p .1)) ∙ charge })
-      | inr u ↦ absurd (s u) ];
+      | inl p ↦ inl (record { place = ap (placeOf ask) (p .0) ∙ place; loss = ap (lossOf ask) (p .0) ∙ loss; steps = ap (λ (z : Cell C). z .steps) (sym (p .1)) ∙ steps; charge = ap (λ (z : Cell C). z .charge) (sym (p .1)) ∙ charge })
+      | inr u ↦ absurd (s u)
+    ];
     few = λ x r e s. elim (either x r e) [
-        inl p ↦ (let a : r .steps ≡ 0 = ap (λ (z : Cell C). z .steps) (sym (p .1)) ∙ steps in let b : oneIf (r .state) ≡ 0 = ap (λ (z : Cell C). oneIf (z .state)) (sym (p .1)) ∙ ap oneIf waiting in omega arith)
-      | inr u ↦ absurd (s u) ];
+      | inl p ↦ (let a : r .steps ≡ 0 = ap (λ (z : Cell C). z .steps) (sym (p .1)) ∙ steps in let b : oneIf (r .state) ≡ 0 = ap (λ (z : Cell C). oneIf (z .state)) (sym (p .1)) ∙ ap oneIf waiting in omega arith)
+      | inr u ↦ absurd (s u)
+    ];
   }
 
   pub start-search : Searching k m ask (doneIn rows′) waits

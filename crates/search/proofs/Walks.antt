@@ -20,7 +20,6 @@ use Rattle.search.specs.Index.{Leaves, Largest, Indexed}
 use Rattle.search.proofs.Turns.{some-same, none-some}
 
 module _ {C : Type 0} (m : SiteMeaning C) (n : ℕ) (heads nexts : List ℕ) (ix : Indexed m heads nexts n) where
-
   larger : (p h : ℕ) → (Leaves m p n → ⊥) → Largest m p n h → Largest m p (n + 1) h
   larger p h away l = record {
     below = (let b = l .below in omega arith);
@@ -33,8 +32,9 @@ module _ {C : Type 0} (m : SiteMeaning C) (n : ℕ) (heads nexts : List ℕ) (ix
   index-shut e = record {
     of-place = λ p. larger p _ (λ v. none-some e (v .1)) (ix .of-place p);
     of-way = λ j p h v. elim (cases-eq j n) [
-        inl a ↦ absurd (none-some e (subst (λ (z : ℕ). Leaves m p z) a v .1))
-      | inr ne ↦ ix .of-way j p (omega arith) v ];
+      | inl a ↦ absurd (none-some e (subst (λ (z : ℕ). Leaves m p z) a v .1))
+      | inr ne ↦ ix .of-way j p (omega arith) v
+    ];
   }
 
   -- a way that leaves a place
@@ -42,7 +42,7 @@ module _ {C : Type 0} (m : SiteMeaning C) (n : ℕ) (heads nexts : List ℕ) (ix
       → Indexed m (set heads (w .from) (n + 1)) (set nexts n (getD heads (w .from) 0)) (n + 1)
   index-way w e inside lh ln = record {
     of-place = λ p. elim (cases-eq p (w .from)) [
-        inl a ↦ (
+      | inl a ↦ (
           let q : getD (set heads (w .from) (n + 1)) p 0 ≡ n + 1 = ap (λ (z : ℕ). getD (set heads (w .from) (n + 1)) z 0) a ∙ getD-set-same heads (w .from) (n + 1) 0 lh in
           subst (λ (z : ℕ). Largest m p (n + 1) z) (sym q) (record {
             below = omega arith;
@@ -51,14 +51,16 @@ module _ {C : Type 0} (m : SiteMeaning C) (n : ℕ) (heads nexts : List ℕ) (ix
           }))
       | inr ne ↦
           subst (λ (z : ℕ). Largest m p (n + 1) z) (sym (getD-set-other heads (w .from) p (n + 1) 0 ne))
-            (larger p _ (λ v. ne (sym (v .2) ∙ ap (λ (z : Way C). z .from) (some-same (sym (v .1) ∙ e)))) (ix .of-place p)) ];
+          (larger p _ (λ v. ne (sym (v .2) ∙ ap (λ (z : Way C). z .from) (some-same (sym (v .1) ∙ e)))) (ix .of-place p))
+    ];
     of-way = λ j p h v. elim (cases-eq j n) [
-        inl a ↦ (
+      | inl a ↦ (
           let v′ = subst (λ (z : ℕ). Leaves m p z) a v in
           let pf : w .from ≡ p = ap (λ (z : Way C). z .from) (some-same (sym e ∙ v′ .1)) ∙ v′ .2 in
           let q : getD (set nexts n (getD heads (w .from) 0)) j 0 ≡ getD heads p 0 = ap (λ (z : ℕ). getD (set nexts n (getD heads (w .from) 0)) z 0) a ∙ getD-set-same nexts n (getD heads (w .from) 0) 0 ln ∙ ap (λ (z : ℕ). getD heads z 0) pf in
           subst (λ (z : ℕ). Largest m p j z) (sym q) (subst (λ (z : ℕ). Largest m p z (getD heads p 0)) (sym a) (ix .of-place p)))
-      | inr ne ↦ subst (λ (z : ℕ). Largest m p j z) (sym (getD-set-other nexts n j (getD heads (w .from) 0) 0 ne)) (ix .of-way j p (omega arith) v) ];
+      | inr ne ↦ subst (λ (z : ℕ). Largest m p j z) (sym (getD-set-other nexts n j (getD heads (w .from) 0) 0 ne)) (ix .of-way j p (omega arith) v)
+    ];
   }
 
 -- nothing is in the index yet
@@ -69,7 +71,6 @@ index-none m heads nexts z = record {
 }
 
 module _ {C : Type 0} (k : Kind C) (laws : Laws k) (m : SiteMeaning C) (ask : Request) (done waits : ℕ → Option C) (x : ℕ) (c : C) where
-
   -- a way that does not leave the cell's place
   pub idle-offered : (i : ℕ) → (Leaves m (placeOf ask x) i → ⊥) → Offered k m ask done waits x c i
   idle-offered i away mark w g = absurd (away (w, g .opens, g .leaves))
@@ -81,7 +82,9 @@ module _ {C : Type 0} (k : Kind C) (laws : Laws k) (m : SiteMeaning C) (ask : Re
       → (i : ℕ) → next ≤ i → i < ways → Offered k m ask done′ waits′ x c i
   walked done′ waits′ ways after next keeps before pos here l i a b =
       elim (cases-lt i after) [
-        inl h ↦ elim (cases-eq i (after - 1)) [
-            inl e ↦ subst (λ (z : ℕ). Offered k m ask done′ waits′ x c z) (sym e) here
-          | inr ne ↦ (λ mark w g. absurd (l .none i a (omega arith) (w, g .opens, g .leaves))) ]
-      | inr h ↦ (λ mark w g. keeps _ _ _ (before i h b mark w g)) ]
+        | inl h ↦ elim (cases-eq i (after - 1)) [
+          | inl e ↦ subst (λ (z : ℕ). Offered k m ask done′ waits′ x c z) (sym e) here
+          | inr ne ↦ (λ mark w g. absurd (l .none i a (omega arith) (w, g .opens, g .leaves)))
+        ]
+        | inr h ↦ (λ mark w g. keeps _ _ _ (before i h b mark w g))
+      ]

@@ -28,7 +28,7 @@ cell-of-target-requires g c κs =
 
 pub add-here : need.add-here
 add-here g c =
-    let f = steps-few _ _ _ _ _ _ _ _ (c .pre .turn) in
+    let f = steps-few _ _ _ _ _ _ _ (c .pre .turn) in
     let n = count-most ((cellsOf (c .args .cells .now))) in
     let size = length-map (c .args .cells .now) (λ r. r .cell) in
     omega (arith, c .pre .room .fits)
@@ -50,7 +50,7 @@ offer-requires g c κs =
       agree = c .pre .turn .books .agree;
       waiting = refl;
       low = λ e q. laws .transitive e (c .args .here .charge) _ (c .pre .turn .expanding .below (c .cell-of-target .result) e q)
-        (subst (λ z. g .Charge·Charge .within (c .args .here .charge) z ≡ true) (sym (c .charge-after-charge .ensures)) (step-rises (kindOf (g .Charge·Charge)) laws m (c .args .here .charge) (c .args .step .mark) (Some (c .args .w))));
+          (subst (λ z. g .Charge·Charge .within (c .args .here .charge) z ≡ true) (sym (c .charge-after-charge .ensures)) (step-rises (kindOf (g .Charge·Charge)) laws m (c .args .here .charge) (c .args .step .mark) (Some (c .args .w))));
     }
 
 pub returns : need.returns
@@ -90,8 +90,8 @@ returns g c =
       many = c .offer .ensures .many;
       index = c .offer .ensures .index;
       count = offer-count k laws m (c .args .request) rows rows′ waits waits′ at new inside refl o;
-      turn = offer-turn k laws m (c .args .request) rows rows′ waits waits′ at new inside refl o (c .args .at) (c .args .here) 0 turn up next (steps-few _ _ _ _ _ _ _ _ turn);
+      turn = offer-turn k laws m (c .args .request) rows rows′ waits waits′ at new inside refl o (c .args .at) (c .args .here) turn up next (steps-few _ _ _ _ _ _ _ turn);
       keeps = λ p l sum h. offer-covered-on k laws m (c .args .request) rows rows′ waits waits′ at new inside refl o p l sum h;
       covered = subst (λ z. Covered k (c .args .request) (doneIn rows′) waits′ (c .args .w .to) (lossAfter (c .args .step .mark) (lossOf (c .args .request) (c .args .at) + c .args .w .loss)) z) (c .charge-after-charge .ensures)
-        (offer-covered-at k laws m (c .args .request) rows rows′ waits waits′ at new inside refl o (c .args .w .to) _ (c .cell-of-target .ensures .place) loss);
+          (offer-covered-at k laws m (c .args .request) rows rows′ waits waits′ at new inside refl o (c .args .w .to) _ (c .cell-of-target .ensures .place) loss);
     }

@@ -14,7 +14,7 @@ Inv-loop-n g l =
     × (g .Q·PriorityQueue .many (l .queue) ≡ g .Q·PriorityQueue .many (l .entry .queue))
     × SameIndex (l .entry .cells) (l .cells)
     × (settledCount (cellsOf (l .cells)) ≡ settledCount (cellsOf (l .entry .cells)))
-    × Turn (kindOf (g .Charge·Charge)) (g .S·Site .meaning (l .site)) (l .request) (cellsOf (l .cells)) (g .Q·PriorityQueue .waits (l .queue)) (l .at) (l .here) 0
+    × Turn (kindOf (g .Charge·Charge)) (g .S·Site .meaning (l .site)) (l .request) (cellsOf (l .cells)) (g .Q·PriorityQueue .waits (l .queue)) (l .at) (l .here)
     × ((i : ℕ) → l .limit ≤ i → i < l .n → Offered (kindOf (g .Charge·Charge)) (g .S·Site .meaning (l .site)) (l .request) (doneIn (cellsOf (l .cells))) (g .Q·PriorityQueue .waits (l .queue)) (l .at) (l .here .charge) i)
 
 abbrev pub Inv-loop-after : given.InvT-loop-after
@@ -23,7 +23,7 @@ Inv-loop-after g l =
     × (g .Q·PriorityQueue .many (l .queue) ≡ g .Q·PriorityQueue .many (l .entry .queue))
     × SameIndex (l .entry .cells) (l .cells)
     × (settledCount (cellsOf (l .cells)) ≡ settledCount (cellsOf (l .entry .cells)))
-    × Turn (kindOf (g .Charge·Charge)) (g .S·Site .meaning (l .site)) (l .request) (cellsOf (l .cells)) (g .Q·PriorityQueue .waits (l .queue)) (l .at) (l .here) 0
+    × Turn (kindOf (g .Charge·Charge)) (g .S·Site .meaning (l .site)) (l .request) (cellsOf (l .cells)) (g .Q·PriorityQueue .waits (l .queue)) (l .at) (l .here)
     × ((i : ℕ) → l .after ≤ i → i < l .ways → Offered (kindOf (g .Charge·Charge)) (g .S·Site .meaning (l .site)) (l .request) (doneIn (cellsOf (l .cells))) (g .Q·PriorityQueue .waits (l .queue)) (l .at) (l .here .charge) i)
     × (l .after ≤ l .limit)
     × (0 < l .after → Leaves (g .S·Site .meaning (l .site)) (placeOf (l .request) (l .at)) (l .after - 1))

@@ -8,7 +8,7 @@ use Rattle.search.specs.Search.{Laws, Covered}
 use Rattle.search.specs.Rows.{Turn, doneIn}
 use Rattle.search.specs.Columns.{cellsOf}
 use Rattle.search.proofs.Tables.{same-index, room-kept}
-use Rattle.search.proofs.Turns.{none-offered, away-offered, far-offered, both-offered, turn-more}
+use Rattle.search.proofs.Turns.{none-offered, away-offered, far-offered, both-offered}
 use Rattle.planner.proofs.expand.offer_way.Needs as need
 
 pub returns-then-w-place-of : need.returns-then-w-place-of

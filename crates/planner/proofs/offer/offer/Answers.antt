@@ -22,7 +22,7 @@ returns-then-better g c =
       many = c .put .ensures .many;
       index = c .set-row .ensures .index;
       offered = subst (λ rs. Offering (kindOf (g .C·Charge)) (cellsOf (c .args .cells .now)) rs (g .Q·PriorityQueue .waits (c .args .queue .now)) (g .Q·PriorityQueue .waits (c .put .last .self)) (c .args .at) (c .args .new)) (sym (c .set-row .ensures .cells)) (offered-over _ laws ((cellsOf (c .args .cells .now))) _ _ (c .args .at) (c .row-at-old .result) (c .args .new) inside (c .row-at-old .ensures) (c .pre .agree) (c .pre .waiting) (sym (c .if-better .ensures tt))
-        (ok-since (c .put .result) _ _ (c .put .ensures .answer) (λ e. omega (arith, e .0, c .pre .room)) .1));
+          (ok-since (c .put .result) _ _ (c .put .ensures .answer) (λ _ h. omega (arith, h .1, c .pre .room)) .1));
     }
 
 pub returns-else-better : need.returns-else-better

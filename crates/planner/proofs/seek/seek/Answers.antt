@@ -102,7 +102,7 @@ returns g c =
     record {
       many = c .in-rest .ensures tt .many ∙ inv .1;
       ordered = c .in-rest .ensures tt .ordered;
-      answer = no-run k laws m ask (doneIn rows) waits (inv .3) (c .in-rest .ensures tt .answer);
+      answer = no-run k laws m ask (doneIn rows) waits (inv .3) (c .in-rest .ensures tt .answer .0);
     }
 
 pub loop-at-again : need.loop-at-again

@@ -42,7 +42,7 @@ returns g c =
     let size = length-map (c .clear .last .cells) (λ r. r .cell) in
     let inside : at < length rows = omega (arith, c .cell-of-first .ensures .same, c .pre .room .rows-suffice, c .clear .kept .cells, c .build .kept .cells) in
     let room : at < g .Q·PriorityQueue .many (c .args .queue .now) = omega (arith, c .cell-of-first .ensures .same, c .pre .room .queue-suffices) in
-    let put = ok-since (c .put .result) _ _ (c .put .ensures .answer) (λ e. omega (arith, e .0, c .clear-2 .ensures .many)) .1 in
+    let put = ok-since (c .put .result) _ _ (c .put .ensures .answer) (λ _ h. omega (arith, h .1, c .clear-2 .ensures .many)) .1 in
     let put′ = subst (λ z. Put empty waits at z) (c .nothing-2 .ensures) put in
     let blank = subst (λ (n : ℕ). Blank rows n) (sym (size ∙ c .clear .kept .cells)) (c .clear .ensures .blank) in
     record {

@@ -21,9 +21,10 @@ loop-i-again g c =
     let size = length-map (c .loop-i .cells) (λ r. r .cell) in
     let inside : c .loop-i .i < length ((cellsOf (c .loop-i .cells))) = omega arith in
     let new : Cell (g .C .Denot) = record { charge = c .nothing .result; state = Unseen; from = 0; way = 0; mark = false; steps = 0 } in
-    let sizes = length-map (c .loop-i .cells) (λ r. r .head) in
-    (subst (λ rs. Blank rs (c .loop-i .i + 1)) (sym (map-set (λ r. r .cell) (c .loop-i .cells) (c .loop-i .i) _)) (blank-more (cellsOf (c .loop-i .cells)) (c .loop-i .i) new inside refl (c .loop-i .inv .0)),
-     λ p h. ap (λ (z : List ℕ). getD z p 0) (map-set (λ r. r .head) (c .loop-i .cells) (c .loop-i .i) _) ∙ fill-by-more (λ _. 0) (headsOf (c .loop-i .cells)) (c .loop-i .i) 0 (omega arith) (c .loop-i .inv .1) p h)
+    let sizes = length-map (c .loop-i .cells) (λ r. r .head) in (
+      subst (λ rs. Blank rs (c .loop-i .i + 1)) (sym (map-set (λ r. r .cell) (c .loop-i .cells) (c .loop-i .i) _)) (blank-more (cellsOf (c .loop-i .cells)) (c .loop-i .i) new inside refl (c .loop-i .inv .0)),
+      λ p h. ap (λ (z : List ℕ). getD z p 0) (map-set (λ r. r .head) (c .loop-i .cells) (c .loop-i .i) _) ∙ fill-by-more (λ _. 0) (headsOf (c .loop-i .cells)) (c .loop-i .i) 0 (omega arith) (c .loop-i .inv .1) p h,
+    )
 
 pub returns : need.returns
 returns g c =

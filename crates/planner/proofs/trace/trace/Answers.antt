@@ -26,10 +26,17 @@ loop-left-holds g c =
     let f = c .pre .found in
     let end = c .row-at-end .result in
     let e : f .last ≡ end = some-same (sym (f .row) ∙ c .row-at-end .ensures) in
-    let tr = subst (λ z. Trail k m ask rows (c .args .last) z [] (z .charge)) e (trail-end k m ask rows (c .args .last) f) in
-    (omega arith, refl,
-     (end, c .row-at-end .ensures, (λ u. f .seen (ap (λ (z : Cell _). z .state) e ∙ u)), refl,
-      subst (λ (rest : List Step). Trail k m ask rows (c .args .last) end rest (end .charge)) (sym (nothing-left (c .args .run .now) (end .steps))) tr))
+    let tr = subst (λ z. Trail k m ask rows (c .args .last) z [] (z .charge)) e (trail-end k m ask rows (c .args .last) f) in (
+      omega arith,
+      refl,
+      (
+        end,
+        c .row-at-end .ensures,
+        (λ u. f .seen (ap (λ (z : Cell _). z .state) e ∙ u)),
+        refl,
+        subst (λ (rest : List Step). Trail k m ask rows (c .args .last) end rest (end .charge)) (sym (nothing-left (c .args .run .now) (end .steps))) tr,
+      ),
+    )
 
 pub row-at-row-requires : need.row-at-row-requires
 row-at-row-requires g c κs = let w = c .loop-left .inv .2 in let h = nth-inside (cellsOf (c .args .cells .now)) (c .loop-left .at) (w .0) (w .1) in let size = length-map (c .args .cells .now) (λ r. r .cell) in omega arith
@@ -58,13 +65,19 @@ loop-left-again g c =
     let back = trail-back k m ask rows at row rest (end .charge) n tr in
     let s = stepOf (row .way) (row .mark) in
     let again : drop (left - 1) (take (end .steps) (set run (left - 1) s)) ≡ s ∷ rest =
-      back-more run (left - 1) (end .steps) s (omega arith) (omega (arith, c .pre .room, c .loop-left .kept .run)) ∙ ap (λ (i : ℕ). s ∷ drop i (take (end .steps) run)) (let one : suc (left - 1) ≡ left = omega arith in one) in
+    back-more run (left - 1) (end .steps) s (omega arith) (omega (arith, c .pre .room, c .loop-left .kept .run)) ∙ ap (λ (i : ℕ). s ∷ drop i (take (end .steps) run)) (let one : suc (left - 1) ≡ left = omega arith in one) in
     let wrote : c .put-step .last .run ≡ set run (left - 1) s = c .put-step .ensures in
-    let ns = n .steps in
-    (omega arith,
-     ap (drop (end .steps)) wrote ∙ behind-same run (left - 1) (end .steps) s (omega arith) ∙ inv .1,
-     (n .before, n .row, settled-unseen (n .settled), (let z : n .before .steps ≡ left - 1 = omega arith in z),
-      subst (λ (r : List Step). Trail k m ask rows (row .from) (n .before) r (end .charge)) (sym (ap (λ (q : List Step). drop (left - 1) (take (end .steps) q)) wrote ∙ again)) back))
+    let ns = n .steps in (
+      omega arith,
+      ap (drop (end .steps)) wrote ∙ behind-same run (left - 1) (end .steps) s (omega arith) ∙ inv .1,
+      (
+        n .before,
+        n .row,
+        settled-unseen (n .settled),
+        (let z : n .before .steps ≡ left - 1 = omega arith in z),
+        subst (λ (r : List Step). Trail k m ask rows (row .from) (n .before) r (end .charge)) (sym (ap (λ (q : List Step). drop (left - 1) (take (end .steps) q)) wrote ∙ again)) back,
+      ),
+    )
 
 pub returns : need.returns
 returns g c =

@@ -16,10 +16,10 @@ Inv-loop-left g l =
     (l .left ≤ l .end .steps)
     × (drop (l .end .steps) (l .run) ≡ drop (l .end .steps) (l .entry .run))
     × ((r : Cell (g .S·Charge .Denot))
-       × (nth (cellsOf (l .cells)) (l .at) ≡ Some r)
-       × (r .state ≢ Unseen)
-       × (r .steps ≡ l .left)
-       × Trail (kindOf (g .Charge·Charge)) (g .S·Site .meaning (l .site)) (l .request) (cellsOf (l .cells)) (l .at) r (drop (l .left) (take (l .end .steps) (l .run))) (l .end .charge))
+    × (nth (cellsOf (l .cells)) (l .at) ≡ Some r)
+    × (r .state ≢ Unseen)
+    × (r .steps ≡ l .left)
+    × Trail (kindOf (g .Charge·Charge)) (g .S·Site .meaning (l .site)) (l .request) (cellsOf (l .cells)) (l .at) r (drop (l .left) (take (l .end .steps) (l .run))) (l .end .charge))
 
 abbrev pub μ-loop-left : given.MeasureT-loop-left
 μ-loop-left g l = l .left

@@ -25,6 +25,6 @@ returns-then-dominated g c =
       many = refl;
       index = record { heads = refl; nexts = refl };
       count = refl;
-      searching = skipped k laws m (c .args .request) (doneIn rows) waits (c .args .at) (c .args .here .charge) 0 (c .pre .turn .expanding) (c .if-dominated .ensures tt refl);
+      searching = skipped k laws m (c .args .request) (doneIn rows) waits (c .args .at) (c .args .here .charge) (c .pre .turn .expanding) (c .if-dominated .ensures tt refl);
       books = c .pre .turn .books;
     }
