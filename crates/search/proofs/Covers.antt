@@ -51,7 +51,7 @@ module _ {C : Type 0} (k : Kind C) (laws : Laws k) where
   step-monotone m a b false (Some w) h = laws .monotone a b (w .charge) h
 
   module _ (m : SiteMeaning C) (ask : Request) where
-    -- with no less loss, and no less charge
+    -- more loss or a higher sum is covered all the more
     pub covered-up : {done waits : ℕ → Option C} {p l : ℕ} {sum : C} (l′ : ℕ) (sum′ : C) → l ≤ l′ → k .within sum sum′ ≡ true → Covered k ask done waits p l sum → Covered k ask done waits p l′ sum′
     covered-up l′ sum′ h w g = record {
       cell = g .cell;
@@ -74,7 +74,8 @@ module _ {C : Type 0} (k : Kind C) (laws : Laws k) where
       marks = g .marks;
     }
 
-    -- what a state says of a lawful run: a waiting charge is no more than its total, or a settled one at the end is
+    -- what a state tells of a lawful run with the total sum: some waiting charge is no more than sum, or some cell of the end
+    -- is settled
     pub Told : (done waits : ℕ → Option C) → C → Type 0
     Told done waits sum =
         ((x : ℕ) × (c : C) × (waits x ≡ Some c) × (k .within c sum ≡ true))
@@ -102,7 +103,7 @@ module _ {C : Type 0} (k : Kind C) (laws : Laws k) where
             rw (lawful .1 .opens) (step-monotone m _ _ (s .mark) (Some w) (g .low)) in
             covered-up _ _ (after-up (s .mark) _ _ (omega arith)) up o
 
-    -- (iii) nothing waits: no run is lawful
+    -- where nothing waits, no run is lawful: there is no waiting charge, and no cell of the end is settled
     pub no-run : (done waits : ℕ → Option C) → Searching k m ask done waits → ((x : ℕ) → waits x ≡ None) → (run : List Step) → Run m ask run → ⊥
     unfolding Told
     no-run done waits inv none run lawful =
@@ -111,7 +112,7 @@ module _ {C : Type 0} (k : Kind C) (laws : Laws k) where
           | inr b ↦ inv .open-end (b .0) (b .1) (b .2) (b .3)
         ]
 
-    -- (ii) a lowest waiting charge is no more than the total of any lawful run
+    -- a charge that is no more than every waiting one is no more than the total of any lawful run
     pub lowest : (done waits : ℕ → Option C) (c : C) → Searching k m ask done waits → ((x : ℕ) (d : C) → waits x ≡ Some d → k .within c d ≡ true) → Lowest k m ask c
     unfolding Told
     lowest done waits c inv least run lawful =
@@ -120,7 +121,7 @@ module _ {C : Type 0} (k : Kind C) (laws : Laws k) where
           | inr b ↦ absurd (inv .open-end (b .0) (b .1) (b .2) (b .3))
         ]
 
-    -- what was covered stays so, if each label is covered in the new state
+    -- from one state to another all stays covered, if every cell that was held is covered with its charge in the new one
     pub covered-kept : (done waits done′ waits′ : ℕ → Option C)
         → ((x : ℕ) (c : C) → (done x ≡ Some c) ⊎ (waits x ≡ Some c) → Covered k ask done′ waits′ (placeOf ask x) (lossOf ask x) c)
         → {p l : ℕ} {sum : C} → Covered k ask done waits p l sum → Covered k ask done′ waits′ p l sum
@@ -135,11 +136,11 @@ module _ {C : Type 0} (k : Kind C) (laws : Laws k) where
           held = n .held;
         }
 
-    -- a held label covers its own cell
+    -- a cell that is held covers itself
     pub itself : (done waits : ℕ → Option C) (x : ℕ) (c : C) → (done x ≡ Some c) ⊎ (waits x ≡ Some c) → Covered k ask done waits (placeOf ask x) (lossOf ask x) c
     itself done waits x c h = record { cell = x; charge = c; place = refl; loss = omega arith; low = same c; held = h }
 
-    -- (i) start: the start's cell alone waits, with nothing
+    -- the search begins: nothing is settled, and the start's cell alone waits, with nothing
     pub start-holds : (done waits : ℕ → Option C) (x : ℕ)
         → ((y : ℕ) → done y ≡ None) → Put (λ _. None) waits x (k .free) → placeOf ask x ≡ ask .start → lossOf ask x ≡ 0
         → Searching k m ask done waits
@@ -176,7 +177,7 @@ module _ {C : Type 0} (k : Kind C) (laws : Laws k) where
       was : (y : ℕ) (d : C) → done′ y ≡ Some d → y ≢ x → done y ≡ Some d
       was y d e ne = sym (put .others y ne) ∙ e
 
-      -- (i) take: a lowest cell, not of the end, is settled
+      -- a lowest waiting cell, which is not one of the end, is taken and settled
       pub take-keeps : placeOf ask x ≢ ask .end → Expanding k m ask done′ waits′ x c
       take-keeps ne = record {
         started = take-covered (inv .started);
@@ -211,11 +212,11 @@ module _ {C : Type 0} (k : Kind C) (laws : Laws k) where
       pub offer-covered : {p l : ℕ} {sum : C} → Covered k ask done waits p l sum → Covered k ask done waits′ p l sum
       offer-covered = covered-kept done waits done waits′ offer-labels
 
-      -- the cell that was offered to is covered
+      -- the offered place, loss and charge are covered
       pub offer-covers : (p l : ℕ) → placeOf ask y ≡ p → lossOf ask y ≡ l → Covered k ask done waits′ p l d
       offer-covers p l a b = record { cell = y; charge = en .charge; place = a; loss = omega arith; low = en .low; held = en .held }
 
-      -- (i) offer: no less than the charge of the cell that is expanded
+      -- a cell is offered a charge that is no less than that of the cell it comes from
       pub offer-keeps : (x : ℕ) (c : C) → k .within c d ≡ true → Expanding k m ask done waits x c → Expanding k m ask done waits′ x c
       offer-keeps x c up inv = record {
         started = offer-covered (inv .started);
@@ -232,7 +233,7 @@ module _ {C : Type 0} (k : Kind C) (laws : Laws k) where
         open-end = inv .open-end;
       }
 
-    -- (i) every way was offered: the next cell can be taken
+    -- every way was offered, so that the next cell can be taken; past the number of ways there is none to offer
     pub expanded : (done waits : ℕ → Option C) (x : ℕ) (c : C) → Bounded m → Expanding k m ask done waits x c → ((i : ℕ) → i < m .ways → Offered k m ask done waits x c i) → Searching k m ask done waits
     expanded done waits x c b inv all = record {
       started = inv .started;
@@ -248,7 +249,7 @@ module _ {C : Type 0} (k : Kind C) (laws : Laws k) where
       open-end = inv .open-end;
     }
 
-    -- a cell that is dominated when it is settled need not offer its ways: each leads where it is covered already
+    -- the ways of a dominated cell need no offer: each leads where the dominating cell's did, with no more loss for no more
     pub skipped : (done waits : ℕ → Option C) (x : ℕ) (c : C) → Expanding k m ask done waits x c → Dominated ask done x → Searching k m ask done waits
     skipped done waits x c inv dom = record {
       started = inv .started;

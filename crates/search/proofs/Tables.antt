@@ -1,4 +1,5 @@
--- Rows of cells, read and written. Assumes the laws of a kind of charge.
+-- Rows, read and written: what one write does to each row and to each column, and what an offer to a cell leaves, whether
+-- it is written or not. By induction over the rows, and by cases over the state of the row that is offered to.
 use mathlib.Core.Path.{_≡_, refl, sym, ap, subst, _∙_}
 use mathlib.Core.Bool.{Bool, true, false, cond, not}
 use mathlib.Core.List.{List, [], _∷_, map}
@@ -42,7 +43,7 @@ nth-set-same (x ∷ xs) (suc i) a h = nth-set-same xs i a (omega arith)
 
 module _ {C : Type 0} (k : Kind C) (laws : Laws k) (rows : List (Cell C)) (waits waits′ : ℕ → Option C) (at : ℕ) (old new : Cell C)
     (inside : at < length rows) (row : nth rows at ≡ Some old) (agree : Agree rows waits) (waiting : new .state ≡ Waiting) where
-  -- a row that is to be written over is not settled, and did not wait with less
+  -- a row that the offer improves is not settled, and did not wait with a lower charge
   clear-of : (s : State) (d : C) → improvesAs k s d (new .charge) ≡ true → settledAs s d ≡ None
   clear-of Unseen d h = refl
   clear-of Waiting d h = refl
@@ -108,7 +109,7 @@ blank-more {C} rows i new inside s b x r h e =
       | inr ne ↦ b x r (omega arith) (sym (nth-set-other rows i x new ne) ∙ e)
     ]
 
--- a column of rows, read
+-- an entry of a column is that field of the row
 pub nth-column : {A B : Type 0} (f : A → B) (rows : List A) (i : ℕ) (d : A) → i < length rows → nth (map f rows) i ≡ Some (f (getD rows i d))
 nth-column f [] i d h = absurd (omega arith)
 nth-column f (s ∷ ss) zero d h = refl

@@ -1,4 +1,5 @@
--- The run that the rows of cells tell, from its end to its start.
+-- The run that the links of the rows tell. Going back over a link puts one step onto the front of the rest, which is how a
+-- lawful run and its total recurse; the number of steps falls with every link, so no cell comes twice.
 use mathlib.Core.Path.{_≡_, refl, sym, ap, subst, _∙_}
 use mathlib.Core.List.{List, [], _∷_}
 use mathlib.Core.Logic.{_≢_, _⊎_, inl, inr}
@@ -24,7 +25,7 @@ use Rattle.search.specs.declared.cell.State.{State}
 use Rattle.search.specs.declared.cell.State.the-variants.{Unseen, Waiting, Settled}
 use Rattle.search.proofs.Turns.{some-same}
 
--- a place and a loss are of one cell
+-- one place with one loss is one cell
 pub one-cell : (ask : Request) (x y : ℕ) → placeOf ask x ≡ placeOf ask y → lossOf ask x ≡ lossOf ask y → x ≡ y
 unfolding placeOf lossOf
 one-cell ask x y p l =
@@ -47,7 +48,7 @@ module _ {C : Type 0} (k : Kind C) (m : SiteMeaning C) (ask : Request) (rows : L
     avoided : (y : ℕ) (q : Cell C) → nth rows y ≡ Some q → q .steps < r .steps → Avoids m (placeOf ask y) (lossOf ask y) (placeBehind (m .way (r .way))) (lossBehind (m .way (r .way)) (r .mark) (lossOf ask (r .from))) rest
     avoided y q e h = rw (there, lost) (tr .avoids y q e h)
 
-    -- one step back
+    -- over one link back
     pub trail-back : Trail k m ask rows (r .from) (n .before) (stepOf (r .way) (r .mark) ∷ rest) sum
     trail-back = record {
       lawful = (n .over, n .goes, subst (λ (p : ℕ). Lawful m ask p (lossAfter (r .mark) (lossOf ask (r .from) + n .over .loss)) rest) (n .place) (subst (λ (l : ℕ). Lawful m ask (placeOf ask x) l rest) (n .loss) (tr .lawful)));
@@ -62,7 +63,7 @@ module _ {C : Type 0} (k : Kind C) (m : SiteMeaning C) (ask : Request) (rows : L
       once = (avoided (r .from) (n .before) (n .row) (let s = n .steps in omega arith), rw (there, lost) (tr .once));
     }
 
-  -- at the start
+  -- at the start's cell the trail is a whole run
   pub trail-whole : (x : ℕ) (r : Cell C) (rest : List Step) (sum : C) → First k ask x r → Trail k m ask rows x r rest sum → Whole k m ask rest sum
   trail-whole x r rest sum f tr = record {
     lawful = subst (λ (p : ℕ). Lawful m ask p 0 rest) (f .place) (subst (λ (l : ℕ). Lawful m ask (placeOf ask x) l rest) (f .loss) (tr .lawful));
@@ -76,7 +77,7 @@ module _ {C : Type 0} (k : Kind C) (m : SiteMeaning C) (ask : Request) (rows : L
   pub is-first : (x : ℕ) (r : Cell C) → Linked k m ask rows x r → r .steps ≡ 0 → First k ask x r
   is-first x r l h = elim l [ inl f ↦ f | inr n ↦ absurd (let s = n .steps in omega arith) ]
 
--- a list that is written from its back
+-- writing a list from its last place to its first
 pub back-more : {X : Type 0} (xs : List X) (i n : ℕ) (a : X) → i < n → n ≤ length xs → drop i (take n (set xs i a)) ≡ a ∷ drop (suc i) (take n xs)
 back-more [] i n a h l = absurd (omega arith)
 back-more (x ∷ xs) i zero a h l = absurd (omega arith)

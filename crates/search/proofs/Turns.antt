@@ -1,4 +1,6 @@
--- What an offer and a take make of the rows. Assumes the laws of a kind of charge.
+-- The steps of the search over rows and queue: an offer, a take and the beginning keep what the search keeps of its state,
+-- and the links and step counts in the rows. Links survive since they lead to settled rows, which are never written again;
+-- and a waiting row is one that is not settled yet, so the settled ones are fewer than all.
 use mathlib.Core.Path.{_≡_, refl, sym, ap, subst, _∙_, fun-ext}
 use mathlib.Core.Bool.{Bool, true, false, cond, not}
 use mathlib.Core.List.{List, [], _∷_}
@@ -40,12 +42,12 @@ waiting-unseen e f = let z : _≡_ {A = ℕ} 0 1 = cc in omega arith
 pub settled-unseen : {s : State} → s ≡ Settled → s ≢ Unseen
 settled-unseen e f = let z : _≡_ {A = ℕ} 0 1 = cc in omega arith
 
--- a settled row
+-- a settled row is done with its charge
 pub done-row : {C : Type 0} (rows : List (Cell C)) (x : ℕ) (r : Cell C) → nth rows x ≡ Some r → r .state ≡ Settled → doneIn rows x ≡ Some (r .charge)
 unfolding doneIn
 done-row rows x r e s = ap settledRow e ∙ ap (λ q. settledAs q (r .charge)) s
 
--- a row that waits
+-- where the rows say that a cell waits, its row is a waiting one
 pub row-waits : {C : Type 0} (rows : List (Cell C)) (x : ℕ) (c : C) → waitsRow (nth rows x) ≡ Some c → (r : Cell C) × (nth rows x ≡ Some r) × (r .state ≡ Waiting) × (r .charge ≡ c)
 row-waits {C} rows x c w = go (nth rows x) w
   where
@@ -86,7 +88,7 @@ pub count-most : {C : Type 0} (rows : List (Cell C)) → settledCount rows ≤ l
 count-most [] = omega arith
 count-most (r ∷ rs) = let h = count-most rs in let o = one-most (r .state) in omega arith
 
--- a row that waits is one that is not settled
+-- since a waiting row is not settled, fewer rows are settled than there are
 pub count-short : {C : Type 0} (rows : List (Cell C)) (at : ℕ) (r : Cell C) → nth rows at ≡ Some r → r .state ≡ Waiting → settledCount rows < length rows
 count-short [] at r e w = absurd (let z : _≡_ {A = ℕ} 0 1 = cc in omega arith)
 count-short (q ∷ qs) zero r e w =
@@ -113,7 +115,7 @@ module _ {C : Type 0} (k : Kind C) (laws : Laws k) (m : SiteMeaning C) (ask : Re
     | inr p ↦ ap settledCount (p .0) ∙ count-same rows at new (p .1) waiting
   ]
 
-  -- a settled row stays
+  -- an offer leaves settled rows as they are
   pub offer-row : (z : ℕ) (r : Cell C) → nth rows z ≡ Some r → r .state ≡ Settled → nth rows′ z ≡ Some r
   offer-row z r e s = elim (o .change) [
     | inl q ↦ ap (λ rs. nth rs z) q ∙ e
@@ -136,7 +138,7 @@ module _ {C : Type 0} (k : Kind C) (laws : Laws k) (m : SiteMeaning C) (ask : Re
   linked-kept : (z : ℕ) (r : Cell C) → Linked k m ask rows z r → Linked k m ask rows′ z r
   linked-kept z r l = elim l [ inl f ↦ inl f | inr n ↦ inr (next-kept z r n) ]
 
-  -- a row afterwards: it was there before, or it is the new one
+  -- each row after the offer was there before, or is the one offered
   was : (z : ℕ) (r : Cell C) → nth rows′ z ≡ Some r → (nth rows z ≡ Some r) ⊎ ((z ≡ at) × (r ≡ new))
   was z r e = elim (o .change) [
     | inl q ↦ inl (ap (λ rs. nth rs z) (sym q) ∙ e)
@@ -264,7 +266,7 @@ module _ {C : Type 0} (k : Kind C) (laws : Laws k) (m : SiteMeaning C) (ask : Re
     settled = here-settled;
   }
 
--- a settled row has fewer steps than rows are settled
+-- the row of the cell whose ways are offered has fewer steps than there are settled rows
 pub steps-few : {C : Type 0} (k : Kind C) (m : SiteMeaning C) (ask : Request) (rows : List (Cell C)) (waits : ℕ → Option C) (x : ℕ) (here : Cell C) → Turn k m ask rows waits x here → here .steps + 1 ≤ settledCount rows
 steps-few k m ask rows waits x here turn =
     let f = turn .books .few x here (turn .row) (settled-unseen (turn .settled)) in
@@ -295,7 +297,7 @@ nth-inside [] i x e = absurd (let z : _≡_ {A = ℕ} 0 1 = cc in omega arith)
 nth-inside (y ∷ ys) zero x e = omega arith
 nth-inside (y ∷ ys) (suc i) x e = let h = nth-inside ys i x e in omega arith
 
--- a cell that is taken: its row waits
+-- a taken cell: it has a waiting row, and where it is one of the end the search has found its run
 module _ {C : Type 0} (k : Kind C) (laws : Laws k) (m : SiteMeaning C) (ask : Request) (rows : List (Cell C)) (waits waits′ : ℕ → Option C) (at : ℕ) (c : C)
     (b : Books k m ask rows waits) (taken : Taken (k .within) waits waits′ at c) where
   taken-row : (r : Cell C) × (nth rows at ≡ Some r) × (r .state ≡ Waiting) × (r .charge ≡ c)
@@ -320,7 +322,7 @@ module _ {C : Type 0} (k : Kind C) (laws : Laws k) (m : SiteMeaning C) (ask : Re
         few = (let f = b .few at (w .0) (w .1) (waiting-unseen (w .2)) in let s = taken-short in omega arith);
       }
 
--- the start: one row waits, and no other was seen
+-- the beginning: one row waits, and no other was reached
 module _ {C : Type 0} (k : Kind C) (laws : Laws k) (m : SiteMeaning C) (ask : Request) (rows rows′ : List (Cell C)) (empty waits : ℕ → Option C) (at : ℕ) (new : Cell C)
     (inside : at < length rows) (blank : Blank rows (length rows)) (written : rows′ ≡ set rows at new) (none : (x : ℕ) → empty x ≡ None) (put : Put empty waits at (k .free))
     (waiting : new .state ≡ Waiting) (charge : new .charge ≡ k .free) (steps : new .steps ≡ 0) (place : placeOf ask at ≡ ask .start) (loss : lossOf ask at ≡ 0) where
@@ -332,7 +334,7 @@ module _ {C : Type 0} (k : Kind C) (laws : Laws k) (m : SiteMeaning C) (ask : Re
       let q : nth rows x ≡ Some r = sym (nth-set-other rows at x new ne) ∙ ap (λ rs. nth rs x) (sym written) ∙ e in
       blank x r (nth-inside rows x r q) q
 
-  -- of any row: it is the new one, or it was not seen
+  -- each row is the waiting one, or was not reached
   either : (x : ℕ) (r : Cell C) → nth rows′ x ≡ Some r → ((x ≡ at) × (new ≡ r)) ⊎ (r .state ≡ Unseen)
   either x r e = elim (cases-eq x at) [
     | inl a ↦ inl (a, some-same (sym new-row ∙ ap (nth rows′) (sym a) ∙ e))

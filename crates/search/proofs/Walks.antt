@@ -1,4 +1,5 @@
--- The index of the ways, built and walked.
+-- The index of the ways: entering one way after the other keeps it right, since the entered way is the largest so far; and
+-- walking it down from a place passes every way that leaves the place, since none leaves it between two links.
 use mathlib.Core.Path.{_≡_, refl, sym, ap, subst, _∙_}
 use mathlib.Core.Bool.{Bool, true, false}
 use mathlib.Core.List.{List}
@@ -27,7 +28,7 @@ module _ {C : Type 0} (m : SiteMeaning C) (n : ℕ) (heads nexts : List ℕ) (ix
     leaves = l .leaves;
   }
 
-  -- a way that is shut
+  -- a shut way changes nothing
   pub index-shut : m .way n ≡ None → Indexed m heads nexts (n + 1)
   index-shut e = record {
     of-place = λ p. larger p _ (λ v. none-some e (v .1)) (ix .of-place p);
@@ -37,7 +38,7 @@ module _ {C : Type 0} (m : SiteMeaning C) (n : ℕ) (heads nexts : List ℕ) (ix
     ];
   }
 
-  -- a way that leaves a place
+  -- an open way becomes the head of the place that it leaves, and the old head its next
   pub index-way : (w : Way C) → m .way n ≡ Some w → w .from < m .places → w .from < length heads → n < length nexts
       → Indexed m (set heads (w .from) (n + 1)) (set nexts n (getD heads (w .from) 0)) (n + 1)
   index-way w e inside lh ln = record {
@@ -63,7 +64,7 @@ module _ {C : Type 0} (m : SiteMeaning C) (n : ℕ) (heads nexts : List ℕ) (ix
     ];
   }
 
--- nothing is in the index yet
+-- an index of no ways
 pub index-none : {C : Type 0} (m : SiteMeaning C) (heads nexts : List ℕ) → ((p : ℕ) → getD heads p 0 ≡ 0) → Indexed m heads nexts 0
 index-none m heads nexts z = record {
   of-place = λ p. subst (λ (y : ℕ). Largest m p 0 y) (sym (z p)) (record { below = omega arith; none = λ i a b v. omega arith; leaves = λ b. absurd (omega arith) });
@@ -71,11 +72,11 @@ index-none m heads nexts z = record {
 }
 
 module _ {C : Type 0} (k : Kind C) (laws : Laws k) (m : SiteMeaning C) (ask : Request) (done waits : ℕ → Option C) (x : ℕ) (c : C) where
-  -- a way that does not leave the cell's place
+  -- a way that does not leave the cell's place has nothing to offer
   pub idle-offered : (i : ℕ) → (Leaves m (placeOf ask x) i → ⊥) → Offered k m ask done waits x c i
   idle-offered i away mark w g = absurd (away (w, g .opens, g .leaves))
 
-  -- one link of the walk: from `after` down to `next`
+  -- one link of the walk, from `after` down to `next`: the ways between them have nothing to offer
   pub walked : (done′ waits′ : ℕ → Option C) (ways after next : ℕ) → Keeps k ask done waits done′ waits′
       → ((i : ℕ) → after ≤ i → i < ways → Offered k m ask done waits x c i)
       → 0 < after → Offered k m ask done′ waits′ x c (after - 1) → Largest m (placeOf ask x) (after - 1) next

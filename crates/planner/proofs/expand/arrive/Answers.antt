@@ -1,3 +1,5 @@
+-- The offer to the cell where a lawful step leads: there is room for it since the step's place and loss are those of a cell; its
+-- charge is no less than that of the cell it comes from, since joining never lowers; so the state is kept and the cell covered.
 use mathlib.Core.Path.{_≡_, refl, sym, ap, subst, _∙_}
 use mathlib.Core.Bool.{true}
 use Prim.Native.Nat.{ℕ, _+_, _<_, _≤_, _*_}
@@ -15,7 +17,13 @@ use Rattle.search.specs.declared.cell.Cell.{Cell}
 use Rattle.search.specs.Columns.{cellsOf}
 use Rattle.search.proofs.Covers.{step-rises}
 use Rattle.search.proofs.Turns.{offer-turn, offer-count, offer-covered-at, offer-covered-on, count-most, steps-few}
+use Rattle.planner.proofs.expand.arrive.Given as given
 use Rattle.planner.proofs.expand.arrive.Needs as need
+
+lawsOf : (g : given.Over) → Laws (kindOf (g .Charge·Charge))
+lawsOf g =
+    let met = g .Charge·Charge·met in
+    record { total = met .total; transitive = met .transitive; monotone = met .monotone; rising = met .rising }
 
 pub cell-of-target-requires : need.cell-of-target-requires
 cell-of-target-requires g c κs =
@@ -35,8 +43,7 @@ add-here g c =
 
 pub offer-requires : need.offer-requires
 offer-requires g c κs =
-    let met = g .Charge·Charge·met in
-    let laws : Laws (kindOf (g .Charge·Charge)) = record { total = met .total; transitive = met .transitive; monotone = met .monotone; rising = met .rising } in
+    let laws = lawsOf g in
     let b = g .S·Site·met .bounded (c .args .site .now) in
     let m = g .S·Site .meaning (c .args .site .now) in
     let r = c .pre .room in
@@ -55,9 +62,8 @@ offer-requires g c κs =
 
 pub returns : need.returns
 returns g c =
-    let met = g .Charge·Charge·met in
     let k = kindOf (g .Charge·Charge) in
-    let laws : Laws k = record { total = met .total; transitive = met .transitive; monotone = met .monotone; rising = met .rising } in
+    let laws = lawsOf g in
     let m = g .S·Site .meaning (c .args .site .now) in
     let b = g .S·Site·met .bounded (c .args .site .now) in
     let turn = c .pre .turn in

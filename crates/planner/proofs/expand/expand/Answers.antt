@@ -1,3 +1,5 @@
+-- Every way is offered: those past the index one by one, the others along the index from the largest down, between whose
+-- links no way leaves the place; so the next cell can be taken.
 use mathlib.Core.Path.{_≡_, refl, sym, ap, subst, _∙_}
 use mathlib.Core.List.{List}
 use mathlib.Core.Logic.{inl, inr}
@@ -15,13 +17,18 @@ use Rattle.search.proofs.Tables.{same-index, room-kept}
 use Rattle.search.proofs.Covers.{expanded}
 use Rattle.search.proofs.Trails.{place-below}
 use Rattle.search.proofs.Walks.{idle-offered, walked}
+use Rattle.planner.proofs.expand.expand.Given as given
 use Rattle.planner.proofs.expand.expand.Needs as need
+
+lawsOf : (g : given.Over) → Laws (kindOf (g .Charge·Charge))
+lawsOf g =
+    let met = g .Charge·Charge·met in
+    record { total = met .total; transitive = met .transitive; monotone = met .monotone; rising = met .rising }
 
 pub loop-n-again : need.loop-n-again
 loop-n-again g c =
-    let met = g .Charge·Charge·met in
     let k = kindOf (g .Charge·Charge) in
-    let laws : Laws k = record { total = met .total; transitive = met .transitive; monotone = met .monotone; rising = met .rising } in
+    let laws = lawsOf g in
     let m = g .S·Site .meaning (c .args .site .now) in
     let ask = c .args .request in
     let inv = c .loop-n .inv in
@@ -44,9 +51,8 @@ head-at-after-requires g c κs = omega (arith, place-below (c .args .request) (c
 
 pub loop-after-holds : need.loop-after-holds
 loop-after-holds g c =
-    let met = g .Charge·Charge·met in
     let k = kindOf (g .Charge·Charge) in
-    let laws : Laws k = record { total = met .total; transitive = met .transitive; monotone = met .monotone; rising = met .rising } in
+    let laws = lawsOf g in
     let m = g .S·Site .meaning (c .args .site .now) in
     let ask = c .args .request in
     let inv = c .loop-n .inv in
@@ -72,9 +78,8 @@ loop-after-holds g c =
 
 pub loop-after-less : need.loop-after-less
 loop-after-less g c =
-    let met = g .Charge·Charge·met in
     let k = kindOf (g .Charge·Charge) in
-    let laws : Laws k = record { total = met .total; transitive = met .transitive; monotone = met .monotone; rising = met .rising } in
+    let laws = lawsOf g in
     let m = g .S·Site .meaning (c .args .site .now) in
     let ask = c .args .request in
     let inv = c .loop-after .inv in
@@ -92,9 +97,8 @@ loop-after-less g c =
 
 pub loop-after-again : need.loop-after-again
 loop-after-again g c =
-    let met = g .Charge·Charge·met in
     let k = kindOf (g .Charge·Charge) in
-    let laws : Laws k = record { total = met .total; transitive = met .transitive; monotone = met .monotone; rising = met .rising } in
+    let laws = lawsOf g in
     let m = g .S·Site .meaning (c .args .site .now) in
     let ask = c .args .request in
     let inv = c .loop-after .inv in
@@ -122,9 +126,8 @@ loop-after-again g c =
 
 pub returns : need.returns
 returns g c =
-    let met = g .Charge·Charge·met in
     let k = kindOf (g .Charge·Charge) in
-    let laws : Laws k = record { total = met .total; transitive = met .transitive; monotone = met .monotone; rising = met .rising } in
+    let laws = lawsOf g in
     let m = g .S·Site .meaning (c .args .site .now) in
     let ask = c .args .request in
     let inv = c .loop-after .inv in

@@ -1,3 +1,5 @@
+-- The first loop has offered the ways from the index's limit up to n; the second all ways from the walk's place upwards, and the
+-- way where it stands leaves the place. The walk falls.
 use mathlib.Core.Path.{_≡_}
 use Prim.Native.Nat.{ℕ, _<_, _≤_, _-_}
 use Rattle.site.specs.Whole.{kindOf}

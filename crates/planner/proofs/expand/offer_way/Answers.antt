@@ -1,3 +1,5 @@
+-- A way is offered: where it is shut, leaves another place or loses too much, no lawful step goes over it; else both of its
+-- steps, without and with a mark, lead to cells that are covered now.
 use mathlib.Core.Path.{_≡_, refl, sym, ap, subst, _∙_}
 use mathlib.Core.Bool.{true}
 use Prim.Native.Nat.{ℕ, _+_, _<_, _≤_, _*_}
@@ -9,13 +11,18 @@ use Rattle.search.specs.Rows.{Turn, doneIn}
 use Rattle.search.specs.Columns.{cellsOf}
 use Rattle.search.proofs.Tables.{same-index, room-kept}
 use Rattle.search.proofs.Turns.{none-offered, away-offered, far-offered, both-offered}
+use Rattle.planner.proofs.expand.offer_way.Given as given
 use Rattle.planner.proofs.expand.offer_way.Needs as need
+
+lawsOf : (g : given.Over) → Laws (kindOf (g .Charge·Charge))
+lawsOf g =
+    let met = g .Charge·Charge·met in
+    record { total = met .total; transitive = met .transitive; monotone = met .monotone; rising = met .rising }
 
 pub returns-then-w-place-of : need.returns-then-w-place-of
 returns-then-w-place-of g c =
-    let met = g .Charge·Charge·met in
     let k = kindOf (g .Charge·Charge) in
-    let laws : Laws k = record { total = met .total; transitive = met .transitive; monotone = met .monotone; rising = met .rising } in
+    let laws = lawsOf g in
     let m = g .S·Site .meaning (c .args .site .now) in
     let ask = c .args .request in
     let rows = (cellsOf (c .args .cells .now)) in
@@ -38,9 +45,8 @@ add-loss-of g c =
 
 pub returns-then-loss-of-w : need.returns-then-loss-of-w
 returns-then-loss-of-w g c =
-    let met = g .Charge·Charge·met in
     let k = kindOf (g .Charge·Charge) in
-    let laws : Laws k = record { total = met .total; transitive = met .transitive; monotone = met .monotone; rising = met .rising } in
+    let laws = lawsOf g in
     let m = g .S·Site .meaning (c .args .site .now) in
     let ask = c .args .request in
     let rows = (cellsOf (c .args .cells .now)) in
@@ -57,9 +63,8 @@ returns-then-loss-of-w g c =
 
 pub returns-then-markable : need.returns-then-markable
 returns-then-markable g c =
-    let met = g .Charge·Charge·met in
     let k = kindOf (g .Charge·Charge) in
-    let laws : Laws k = record { total = met .total; transitive = met .transitive; monotone = met .monotone; rising = met .rising } in
+    let laws = lawsOf g in
     let m = g .S·Site .meaning (c .args .site .now) in
     let ask = c .args .request in
     let rows = (cellsOf (c .arrive-then-markable .last .cells)) in
@@ -77,9 +82,8 @@ returns-then-markable g c =
 
 pub returns-else-markable : need.returns-else-markable
 returns-else-markable g c =
-    let met = g .Charge·Charge·met in
     let k = kindOf (g .Charge·Charge) in
-    let laws : Laws k = record { total = met .total; transitive = met .transitive; monotone = met .monotone; rising = met .rising } in
+    let laws = lawsOf g in
     let m = g .S·Site .meaning (c .args .site .now) in
     let ask = c .args .request in
     let rows = (cellsOf (c .arrive .last .cells)) in
@@ -97,9 +101,8 @@ returns-else-markable g c =
 
 pub returns-in-rest : need.returns-in-rest
 returns-in-rest g c =
-    let met = g .Charge·Charge·met in
     let k = kindOf (g .Charge·Charge) in
-    let laws : Laws k = record { total = met .total; transitive = met .transitive; monotone = met .monotone; rising = met .rising } in
+    let laws = lawsOf g in
     let m = g .S·Site .meaning (c .args .site .now) in
     let ask = c .args .request in
     let rows = (cellsOf (c .args .cells .now)) in

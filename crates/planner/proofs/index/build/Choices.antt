@@ -1,3 +1,4 @@
+-- The ways below n are in the index, and the cells are as they were.
 use mathlib.Core.Path.{_≡_}
 use Rattle.search.specs.Columns.{cellsOf, headsOf, nextsOf}
 use Rattle.search.specs.Index.{Indexed}

@@ -1,3 +1,4 @@
+-- One more way is in the index: a shut one changes nothing, an open one becomes the largest of its place.
 use mathlib.Core.Path.{_≡_, refl, sym, ap, subst, _∙_}
 use mathlib.Core.List.{List}
 use Prim.Native.Nat.{ℕ, _+_, _<_, _≤_}

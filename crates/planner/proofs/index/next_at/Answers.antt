@@ -1,3 +1,4 @@
+-- A field of one row is the entry of its column.
 use Rattle.search.proofs.Tables.{read-column}
 use Rattle.planner.proofs.index.next_at.Needs as need
 

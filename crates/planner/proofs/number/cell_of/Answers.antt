@@ -1,3 +1,4 @@
+-- A loss below the base bound + 1 is the remainder of the cell's number, and the place is the quotient.
 use mathlib.Core.Path.{refl}
 use Prim.Native.Nat.{_+_, _<_, _%_, _*_, _≤_}
 use native.Mathlib.Omega.{arith}

@@ -1,3 +1,4 @@
+-- The remainder by bound + 1 is at most the bound.
 use mathlib.Core.Path.{refl}
 use Prim.Native.Nat.{_+_, _<_, _%_}
 use native.Mathlib.Omega.{arith}

@@ -1,3 +1,4 @@
+-- The quotient is the place, by definition.
 use mathlib.Core.Path.{refl}
 use Rattle.search.specs.Cells.{placeOf}
 use Rattle.planner.proofs.number.place_of.Needs as need

@@ -1,3 +1,4 @@
+-- An offer is written where it improves the cell, and the queue has room for it; else the cell is held with no more already.
 use mathlib.Core.Path.{_≡_, refl, sym, subst}
 use Rattle.search.specs.Rows.{Offering}
 use Prim.Native.Nat.{_<_}
@@ -9,12 +10,17 @@ use Rattle.site.specs.Whole.{kindOf}
 use Rattle.search.specs.Search.{Laws}
 use Rattle.search.specs.Columns.{cellsOf}
 use Rattle.search.proofs.Tables.{offered-over, offered-none, ok-since}
+use Rattle.planner.proofs.offer.offer.Given as given
 use Rattle.planner.proofs.offer.offer.Needs as need
+
+lawsOf : (g : given.Over) → Laws (kindOf (g .C·Charge))
+lawsOf g =
+    let met = g .C·Charge·met in
+    record { total = met .total; transitive = met .transitive; monotone = met .monotone; rising = met .rising }
 
 pub returns-then-better : need.returns-then-better
 returns-then-better g c =
-    let met = g .C·Charge·met in
-    let laws : Laws (kindOf (g .C·Charge)) = record { total = met .total; transitive = met .transitive; monotone = met .monotone; rising = met .rising } in
+    let laws = lawsOf g in
     let size = length-map (c .args .cells .now) (λ r. r .cell) in
     let inside : c .args .at < length (cellsOf (c .args .cells .now)) = omega (arith, c .pre .inside) in
     record {
@@ -27,8 +33,7 @@ returns-then-better g c =
 
 pub returns-else-better : need.returns-else-better
 returns-else-better g c =
-    let met = g .C·Charge·met in
-    let laws : Laws (kindOf (g .C·Charge)) = record { total = met .total; transitive = met .transitive; monotone = met .monotone; rising = met .rising } in
+    let laws = lawsOf g in
     let waits = g .Q·PriorityQueue .waits (c .args .queue .now) in
     let size = length-map (c .args .cells .now) (λ r. r .cell) in
     let inside : c .args .at < length (cellsOf (c .args .cells .now)) = omega (arith, c .pre .inside) in

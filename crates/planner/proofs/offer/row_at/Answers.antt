@@ -1,3 +1,4 @@
+-- A field of one row is the entry of its column.
 use Rattle.search.proofs.Tables.{nth-column}
 use Rattle.planner.proofs.offer.row_at.Needs as need
 

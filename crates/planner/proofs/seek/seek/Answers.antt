@@ -1,3 +1,5 @@
+-- Each turn settles one more row, so the loop ends. A taken cell of the end has the lowest total; where nothing waits no run is
+-- lawful; any other cell is settled and its ways are offered, which keeps the state.
 use mathlib.Core.Path.{_≡_, refl, sym, ap, subst, _∙_}
 use Prim.Native.Nat.{ℕ, _+_, _<_, _≤_, _*_}
 use native.Mathlib.Omega.{arith}
@@ -10,13 +12,18 @@ use Rattle.search.proofs.Covers.{no-run}
 use Prim.Native.Nat.{min}
 use Rattle.search.proofs.Tables.{indexed-kept, same-index}
 use Rattle.search.proofs.Turns.{taken-inside, taken-short, taken-found, settle-turn, settle-count}
+use Rattle.planner.proofs.seek.seek.Given as given
 use Rattle.planner.proofs.seek.seek.Needs as need
+
+lawsOf : (g : given.Over) → Laws (kindOf (g .Charge·Charge))
+lawsOf g =
+    let met = g .Charge·Charge·met in
+    record { total = met .total; transitive = met .transitive; monotone = met .monotone; rising = met .rising }
 
 pub returns-then-place-of-request : need.returns-then-place-of-request
 returns-then-place-of-request g c =
-    let met = g .Charge·Charge·met in
     let k = kindOf (g .Charge·Charge) in
-    let laws : Laws k = record { total = met .total; transitive = met .transitive; monotone = met .monotone; rising = met .rising } in
+    let laws = lawsOf g in
     let m = g .S·Site .meaning (c .args .site .now) in
     let ask = c .args .request in
     let inv = c .loop-at .inv in
@@ -33,9 +40,8 @@ returns-then-place-of-request g c =
 pub settle-here-requires : need.settle-here-requires
 settle-here-requires g c κs =
     let size = length-map (c .loop-at .cells) (λ r. r .cell) in
-    let met = g .Charge·Charge·met in
     let k = kindOf (g .Charge·Charge) in
-    let laws : Laws k = record { total = met .total; transitive = met .transitive; monotone = met .monotone; rising = met .rising } in
+    let laws = lawsOf g in
     let m = g .S·Site .meaning (c .args .site .now) in
     let ask = c .args .request in
     let inv = c .loop-at .inv in
@@ -48,9 +54,8 @@ settle-here-requires g c κs =
 
 pub visit-requires : need.visit-requires
 visit-requires g c κs =
-    let met = g .Charge·Charge·met in
     let k = kindOf (g .Charge·Charge) in
-    let laws : Laws k = record { total = met .total; transitive = met .transitive; monotone = met .monotone; rising = met .rising } in
+    let laws = lawsOf g in
     let m = g .S·Site .meaning (c .args .site .now) in
     let ask = c .args .request in
     let inv = c .loop-at .inv in
@@ -71,9 +76,8 @@ visit-requires g c κs =
 
 pub loop-at-less : need.loop-at-less
 loop-at-less g c =
-    let met = g .Charge·Charge·met in
     let k = kindOf (g .Charge·Charge) in
-    let laws : Laws k = record { total = met .total; transitive = met .transitive; monotone = met .monotone; rising = met .rising } in
+    let laws = lawsOf g in
     let m = g .S·Site .meaning (c .args .site .now) in
     let ask = c .args .request in
     let inv = c .loop-at .inv in
@@ -90,9 +94,8 @@ loop-at-less g c =
 
 pub returns : need.returns
 returns g c =
-    let met = g .Charge·Charge·met in
     let k = kindOf (g .Charge·Charge) in
-    let laws : Laws k = record { total = met .total; transitive = met .transitive; monotone = met .monotone; rising = met .rising } in
+    let laws = lawsOf g in
     let m = g .S·Site .meaning (c .args .site .now) in
     let ask = c .args .request in
     let inv = c .loop-at .inv in

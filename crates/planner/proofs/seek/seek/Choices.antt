@@ -1,3 +1,4 @@
+-- What holds each time that a cell is to be taken, of state, rows and queue; the rows not yet settled get fewer.
 use mathlib.Core.Path.{_≡_}
 use Prim.Native.Nat.{_-_}
 use lib.ListN.{length}

@@ -1,3 +1,4 @@
+-- The row is written as it was, but settled.
 use mathlib.Core.Path.{_≡_, refl}
 use Rattle.search.specs.Columns.{cellsOf}
 use Rattle.planner.proofs.seek.settle.Needs as need

@@ -1,3 +1,4 @@
+-- After clearing, indexing and one put, the start's cell alone waits, with nothing: the state in which a search begins.
 use mathlib.Core.Path.{_≡_, refl, sym, ap, subst, _∙_}
 use mathlib.Core.Bool.{false}
 use Prim.Native.Nat.{ℕ, _+_, _<_, _≤_, _*_}
@@ -15,7 +16,13 @@ use Rattle.search.specs.declared.cell.State.the-variants.{Waiting}
 use Rattle.search.specs.Columns.{cellsOf}
 use Rattle.search.proofs.Tables.{ok-since}
 use Rattle.search.proofs.Turns.{start-books, start-search}
+use Rattle.planner.proofs.start.begin.Given as given
 use Rattle.planner.proofs.start.begin.Needs as need
+
+lawsOf : (g : given.Over) → Laws (kindOf (g .Charge·Charge))
+lawsOf g =
+    let met = g .Charge·Charge·met in
+    record { total = met .total; transitive = met .transitive; monotone = met .monotone; rising = met .rising }
 
 pub set-row-requires : need.set-row-requires
 set-row-requires g c κs =
@@ -26,9 +33,8 @@ set-row-requires g c κs =
 
 pub returns : need.returns
 returns g c =
-    let met = g .Charge·Charge·met in
     let k = kindOf (g .Charge·Charge) in
-    let laws : Laws k = record { total = met .total; transitive = met .transitive; monotone = met .monotone; rising = met .rising } in
+    let laws = lawsOf g in
     let m = g .S·Site .meaning (c .args .site .now) in
     let ask = c .args .request in
     let h : 0 < ask .bound + 1 = omega arith in

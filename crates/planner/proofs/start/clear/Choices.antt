@@ -1,3 +1,4 @@
+-- The rows below i are blank.
 use mathlib.Core.Path.{_≡_}
 use Prim.Native.Nat.{ℕ, _<_}
 use lib.ListN.{getD}

@@ -1,3 +1,5 @@
+-- Walking the links back from the end puts step after step onto the front of a trail, whose steps fall by one each time; at 0 it
+-- begins at the start's cell, and the trail is the whole run.
 use mathlib.Core.Path.{_≡_, refl, sym, ap, subst, _∙_}
 use mathlib.Core.List.{List, [], _∷_}
 use Prim.Native.Nat.{ℕ, suc, _+_, _-_, _<_, _≤_, _*_}

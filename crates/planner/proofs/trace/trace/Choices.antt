@@ -1,3 +1,4 @@
+-- The steps written so far are a trail from the cell `at` to the end; as many are left as that cell has steps.
 use mathlib.Core.Path.{_≡_}
 use mathlib.Core.Logic.{_≢_}
 use Prim.Native.Nat.{_≤_}

@@ -1,3 +1,4 @@
+-- All that makes the hinted cell a dominating one has been tested.
 use mathlib.Core.Path.{_≡_, refl, sym, ap, subst, _∙_}
 use Prim.Native.Nat.{ℕ, _+_, _<_, _≤_, _*_}
 use native.Mathlib.Omega.{arith}

@@ -1,3 +1,4 @@
+-- A dominated cell's ways count as offered; another cell's are offered.
 use mathlib.Core.Path.{_≡_, refl, sym, ap, subst, _∙_}
 use Prim.Native.Nat.{ℕ, _+_, _<_, _≤_, _*_}
 use native.Mathlib.Omega.{arith}
@@ -7,16 +8,21 @@ use Rattle.search.specs.Rows.{doneIn}
 use Rattle.search.specs.Columns.{cellsOf}
 use Rattle.search.proofs.Covers.{skipped}
 use Rattle.search.proofs.Trails.{place-below}
+use Rattle.planner.proofs.visit.visit.Given as given
 use Rattle.planner.proofs.visit.visit.Needs as need
+
+lawsOf : (g : given.Over) → Laws (kindOf (g .Charge·Charge))
+lawsOf g =
+    let met = g .Charge·Charge·met in
+    record { total = met .total; transitive = met .transitive; monotone = met .monotone; rising = met .rising }
 
 pub set-hint-requires : need.set-hint-requires
 set-hint-requires g c κs = omega (arith, place-below (c .args .request) (c .args .at), c .place-of-place .ensures, c .pre .inside)
 
 pub returns-then-dominated : need.returns-then-dominated
 returns-then-dominated g c =
-    let met = g .Charge·Charge·met in
     let k = kindOf (g .Charge·Charge) in
-    let laws : Laws k = record { total = met .total; transitive = met .transitive; monotone = met .monotone; rising = met .rising } in
+    let laws = lawsOf g in
     let m = g .S·Site .meaning (c .args .site .now) in
     let rows = cellsOf (c .args .cells .now) in
     let waits = g .Q·PriorityQueue .waits (c .args .queue .now) in
