@@ -3,7 +3,7 @@ ghost use mathlib.Core.Bool.{Bool, true, false};
 ghost use Prim.Native.Nat.{ℕ, _<_, _≤_, _+_, min};
 ghost use lib.ListN.{length};
 ghost use Rattle.std.specs.declared.option.Option.the-variants.{Some, None};
-ghost use Rattle.site.specs.Runs.{afterWay, lossAfter, Markable, Goes};
+ghost use Rattle.site.specs.Runs.{afterWay, lossAfter, Goes};
 ghost use Rattle.site.specs.Whole.{kindOf};
 ghost use Rattle.search.specs.Cells.{placeOf, lossOf};
 ghost use Rattle.search.specs.Search.{Covered, Searching, Keeps, Offered};
@@ -14,7 +14,6 @@ use crate::index::head_at;
 use crate::index::next_at;
 use crate::index::smaller;
 use crate::number::cell_of;
-use crate::number::loss_after;
 use crate::number::loss_of;
 use crate::number::place_of;
 use crate::offer::offer;
@@ -23,32 +22,14 @@ use queue::queue::PriorityQueue;
 use search::cell::Cell;
 use search::cell::Row;
 use search::cell::State;
+use search::step::charge_after;
+use search::step::loss_after;
+use search::step::markable;
+use search::step::within_bound;
 use site::run::Request;
 use site::run::Step;
 use site::site::Site;
 use site::way::Way;
-
-// A sum with the charge of a way joined to it and then, if marked, that of the repeater where the way arrives.
-fn charge_after<S: Site>(site: &S, sum: S::Charge, mark: bool, w: Way<S::Charge>) -> S::Charge
-    ensures { λ r. ⌜ r ≡ afterWay (kindOf Charge·Charge) (S·Site .meaning (now (site .entry))) sum mark (Some w) ⌝ }
-{
-    let plain = sum.join(w.charge);
-    if !mark {
-        return plain;
-    }
-    match site.repeater(w.to) {
-        Some(repeater) => plain.join(repeater),
-        None => plain,
-    }
-}
-
-// Whether a repeater may be marked at a place: one can stand there, and it is neither the start nor the end.
-fn markable<S: Site>(site: &S, request: Request, place: usize) -> bool
-    ensures yes { λ r. ⌜ (r ≡ true → Markable (S·Site .meaning (now (site .entry))) request place) ⌝ }
-    ensures back { λ r. ⌜ (Markable (S·Site .meaning (now (site .entry))) request place → r ≡ true) ⌝ }
-{
-    place != request.start && place != request.end && site.repeater(place).is_some()
-}
 
 // Offers the cell to which a lawful step over the way `w` leads from the settled cell `at`.
 fn arrive<S: Site, Q: PriorityQueue<Charge = S::Charge>>(
@@ -73,7 +54,7 @@ fn arrive<S: Site, Q: PriorityQueue<Charge = S::Charge>>(
     ensures keeps { λ _. ⌜ Keeps (kindOf Charge·Charge) request (doneIn (cellsOf (now (cells .entry)))) (Q·PriorityQueue .waits (now (queue .entry))) (doneIn (cellsOf (now (cells .exit)))) (Q·PriorityQueue .waits (now (queue .exit))) ⌝ }
     ensures covered { λ _. ⌜ Covered (kindOf Charge·Charge) request (doneIn (cellsOf (now (cells .exit)))) (Q·PriorityQueue .waits (now (queue .exit))) (w .to) (lossAfter (step .mark) (lossOf request at + w .loss)) (afterWay (kindOf Charge·Charge) (S·Site .meaning (now (site .entry))) (here .charge) (step .mark) (Some w)) ⌝ }
 {
-    let loss = loss_after(request, at, step.mark, w.loss as usize);
+    let loss = loss_after(step.mark, loss_of(request, at) + w.loss as usize);
     let target = cell_of(request, w.to, loss);
     let charge = charge_after(site, here.charge, step.mark, w);
     offer(
@@ -116,7 +97,7 @@ fn offer_way<S: Site, Q: PriorityQueue<Charge = S::Charge>>(
         if w.from != place_of(request, at) {
             return;
         }
-        if loss_of(request, at) + w.loss as usize > request.bound {
+        if !within_bound(request, loss_of(request, at), w.loss) {
             return;
         }
         arrive(

@@ -5,6 +5,7 @@ ghost use lib.ListN.{length, set};
 ghost use Rattle.std.specs.Finite.{nth};
 ghost use Rattle.std.specs.declared.option.Option.the-variants.{Some, None};
 ghost use Rattle.site.specs.Whole.{kindOf};
+ghost use Rattle.queue.specs.Waits.{Put};
 ghost use Rattle.search.specs.Rows.{Agree, Offering, improvesAs, doneIn};
 ghost use Rattle.search.specs.declared.cell.State.the-variants.{Waiting};
 ghost use Rattle.search.specs.Columns.{cellsOf, headsOf, nextsOf, SameIndex};
@@ -42,6 +43,17 @@ fn better<C: Charge>(old: Cell<C>, charge: C) -> bool
     }
 }
 
+// Lets a cell wait with a charge, where the queue has a row for it.
+pub fn enter<C: Charge, Q: PriorityQueue<Charge = C>>(queue: &mut Q, at: usize, charge: C)
+    requires room { ⌜ at < Q·PriorityQueue .many (now queue) ⌝ }
+    requires ordered { ⌜ Q·PriorityQueue .ordered (now queue) ⌝ }
+    ensures ordered { λ _. ⌜ Q·PriorityQueue .ordered (now (queue .exit)) ⌝ }
+    ensures many { λ _. ⌜ Q·PriorityQueue .many (now (queue .exit)) ≡ Q·PriorityQueue .many (now (queue .entry)) ⌝ }
+    ensures put { λ _. ⌜ Put (Q·PriorityQueue .waits (now (queue .entry))) (Q·PriorityQueue .waits (now (queue .exit))) at charge ⌝ }
+{
+    let _ = queue.put(at, charge);
+}
+
 // Offers the cell `at`: `new` is written there and waits, unless the cell is settled or waits with no more.
 pub fn offer<C: Charge, Q: PriorityQueue<Charge = C>>(
     cells: &mut [Row<C>],
@@ -63,6 +75,6 @@ pub fn offer<C: Charge, Q: PriorityQueue<Charge = C>>(
     let old = row_at(cells, at);
     if better(old, new.charge) {
         set_row(cells, at, new);
-        let _ = queue.put(at, new.charge);
+        enter(queue, at, new.charge);
     }
 }

@@ -5,7 +5,7 @@ ghost use Rattle.std.specs.Results.{Cases};
 ghost use Rattle.refusal.specs.declared.Refusal.the-variants.{NoRun};
 ghost use Rattle.site.specs.Whole.{kindOf};
 ghost use Rattle.search.specs.Rows.{Room};
-ghost use Rattle.planner.specs.Outcome.{needed, Passed, Stopped, Handed, NoLawful, Outcome};
+ghost use Rattle.planner.specs.Outcome.{Handed, NoLawful, Outcome};
 use crate::planned::Planned;
 use crate::seek::seek;
 use crate::start::begin;
@@ -14,33 +14,10 @@ use charge::kind::Charge;
 use queue::queue::PriorityQueue;
 use refusal::Refusal;
 use search::cell::Row;
+use search::check::rows_needed;
 use site::run::Request;
 use site::run::Step;
 use site::site::Site;
-
-// How many rows of each sort a request needs, or the first cause that speaks against a search for it.
-fn rows_needed<S: Site>(
-    site: &S,
-    request: Request,
-    cells: usize,
-    many: usize,
-    steps: usize,
-) -> Result<usize, Refusal>
-    ensures { λ r. ⌜ Cases r (λ n. Passed (S·Site .meaning (now (site .entry))) request cells many steps × (n ≡ needed (S·Site .meaning (now (site .entry))) request)) (λ e. Stopped (S·Site .meaning (now (site .entry))) request cells many steps e) ⌝ }
-{
-    let places = site.places();
-    if request.start >= places || request.end >= places {
-        return Err(Refusal::NoSuchPlace);
-    }
-    if request.bound == 0 || request.bound > 1000 {
-        return Err(Refusal::WrongBound);
-    }
-    let rows = places * (request.bound + 1);
-    if cells < rows || many < rows || steps < rows {
-        return Err(Refusal::TooFewRows);
-    }
-    Ok(rows)
-}
 
 // Searches for a least run where there is room for every cell, and writes it.
 fn search<S: Site, Q: PriorityQueue<Charge = S::Charge>>(

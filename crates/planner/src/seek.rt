@@ -1,11 +1,14 @@
 ghost use mathlib.Core.Path.{_≡_};
+ghost use mathlib.Core.Bool.{true, false};
 ghost use mathlib.Core.List.{List};
+ghost use mathlib.Core.Logic.{_≢_};
 ghost use Prim.Native.Nat.{ℕ, _<_, _≤_, _+_, min};
 ghost use lib.ListN.{length};
 ghost use Rattle.std.specs.Options.{Cases as BySome};
 ghost use Rattle.site.specs.Runs.{Run};
 ghost use Rattle.site.specs.declared.run.Step.{Step};
 ghost use Rattle.site.specs.Whole.{kindOf};
+ghost use Rattle.search.specs.Cells.{placeOf};
 ghost use Rattle.search.specs.Search.{Searching};
 ghost use Rattle.search.specs.Rows.{Room, Books, Settling, Found, doneIn};
 ghost use Rattle.search.specs.Columns.{cellsOf, headsOf, nextsOf, SameIndex};
@@ -41,6 +44,15 @@ fn settle<C: Charge>(cells: &mut [Row<C>], at: usize) -> Cell<C>
     here
 }
 
+// Whether a cell is one of the end.
+fn ends(request: Request, at: usize) -> bool
+    requires { ⌜ request .bound ≤ 1000 ⌝ }
+    ensures yes { λ r. ⌜ (r ≡ true → placeOf request at ≡ request .end) ⌝ }
+    ensures no { λ r. ⌜ (r ≡ false → placeOf request at ≢ request .end) ⌝ }
+{
+    place_of(request, at) == request.end
+}
+
 // Takes a lowest waiting cell again and again until one of the end is taken, which it answers, or none waits: then there
 // is no lawful run.
 pub fn seek<S: Site, Q: PriorityQueue<Charge = S::Charge>>(
@@ -59,7 +71,7 @@ pub fn seek<S: Site, Q: PriorityQueue<Charge = S::Charge>>(
     ensures answer { λ r. ⌜ BySome r ((run : List Step) → Run (S·Site .meaning (now (site .entry))) request run → ⊥) (λ x. Found (kindOf Charge·Charge) (S·Site .meaning (now (site .entry))) request (cellsOf (now (cells .exit))) x) ⌝ }
 {
     while let Some((at, charge)) = queue.take() {
-        if place_of(request, at) == request.end {
+        if ends(request, at) {
             return Some(at);
         }
         let here = settle(cells, at);

@@ -10,6 +10,7 @@ ghost use Rattle.search.specs.Columns.{cellsOf, headsOf, nextsOf, SameIndex};
 ghost use Rattle.search.specs.Index.{Indexed};
 use crate::index::build;
 use crate::number::cell_of;
+use crate::offer::enter;
 use crate::offer::set_row;
 use charge::kind::Charge;
 use queue::queue::PriorityQueue;
@@ -72,5 +73,5 @@ pub fn begin<S: Site, Q: PriorityQueue<Charge = S::Charge>>(
             steps: 0,
         },
     );
-    let _ = queue.put(first, S::Charge::nothing());
+    enter(queue, first, S::Charge::nothing());
 }

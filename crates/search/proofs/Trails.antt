@@ -1,11 +1,13 @@
 -- The run that the links of the rows tell. Going back over a link puts one step onto the front of the rest, which is how a
 -- lawful run and its total recurse; the number of steps falls with every link, so no cell comes twice.
 use mathlib.Core.Path.{_≡_, refl, sym, ap, subst, _∙_}
+use mathlib.Core.Bool.{Bool, true, false}
 use mathlib.Core.List.{List, [], _∷_}
 use mathlib.Core.Logic.{_≢_, _⊎_, inl, inr}
 use Prim.Native.Nat.{ℕ, zero, suc, _+_, _*_, _/_, _%_, _≤_, _<_}
 use native.Mathlib.Omega.{arith}
 use native.Mathlib.Nat.{div-le-self}
+use lib.Arith.{digits-div, digits-mod}
 use lib.ListN.{length, set, take, drop}
 use Rattle.std.specs.Finite.{nth}
 use Rattle.std.specs.declared.option.Option.{Option}
@@ -95,6 +97,20 @@ nothing-left [] zero = refl
 nothing-left [] (suc n) = refl
 nothing-left (x ∷ xs) zero = refl
 nothing-left (x ∷ xs) (suc n) = nothing-left xs n
+
+-- the place and the loss of a cell's number
+pub cell-place : (ask : Request) (p l x : ℕ) → l ≤ ask .bound → x ≡ p * (ask .bound + 1) + l → placeOf ask x ≡ p
+unfolding placeOf
+cell-place ask p l x h e = ap (λ (y : ℕ). y / (ask .bound + 1)) e ∙ digits-div p (let lt : l < ask .bound + 1 = omega arith in lt)
+
+pub cell-loss : (ask : Request) (p l x : ℕ) → l ≤ ask .bound → x ≡ p * (ask .bound + 1) + l → lossOf ask x ≡ l
+unfolding lossOf
+cell-loss ask p l x h e = ap (λ (y : ℕ). y % (ask .bound + 1)) e ∙ digits-mod p (let lt : l < ask .bound + 1 = omega arith in lt)
+
+-- the loss after a lawful arrival is at most the bound, with a mark and without
+pub after-low : (ask : Request) (mark : Bool) (l r : ℕ) → l ≤ ask .bound → r ≡ lossAfter mark l → r ≤ ask .bound
+after-low ask true l r h e = omega arith
+after-low ask false l r h e = omega arith
 
 pub place-below : (ask : Request) (x : ℕ) → placeOf ask x ≤ x
 unfolding placeOf

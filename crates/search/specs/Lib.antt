@@ -1,3 +1,4 @@
+pub mod Checks
 pub mod Cells
 pub mod Search
 pub mod Rows

@@ -17,6 +17,7 @@ use Rattle.search.specs.declared.cell.Cell.{Cell}
 use Rattle.search.specs.Columns.{cellsOf}
 use Rattle.search.proofs.Covers.{step-rises}
 use Rattle.search.proofs.Turns.{offer-turn, offer-count, offer-covered-at, offer-covered-on, count-most, steps-few}
+use Rattle.search.proofs.Trails.{cell-place, cell-loss, after-low}
 use Rattle.planner.proofs.expand.arrive.Given as given
 use Rattle.planner.proofs.expand.arrive.Needs as need
 
@@ -27,11 +28,13 @@ lawsOf g =
 
 pub cell-of-target-requires : need.cell-of-target-requires
 cell-of-target-requires g c κs =
+    let lost : c .loss-after-loss .result ≡ lossAfter (c .args .step .mark) (lossOf (c .args .request) (c .args .at) + c .args .w .loss) = c .loss-after-loss .ensures ∙ ap (λ (z : ℕ). lossAfter (c .args .step .mark) (z + c .args .w .loss)) (c .loss-of .ensures .same) in
+    let low = after-low (c .args .request) (c .args .step .mark) _ _ (c .pre .goes .arrives) lost in
     let b = g .S·Site·met .bounded (c .args .site .now) in
     record {
       bound = c .pre .room .bound;
       place = (let h = b .to-in _ _ (c .pre .goes .opens) in let f = b .few-places in omega arith);
-      loss = c .loss-after-loss .ensures .low;
+      loss = low;
     }
 
 pub add-here : need.add-here
@@ -47,9 +50,11 @@ offer-requires g c κs =
     let b = g .S·Site·met .bounded (c .args .site .now) in
     let m = g .S·Site .meaning (c .args .site .now) in
     let r = c .pre .room in
-    let h : c .loss-after-loss .result < c .args .request .bound + 1 = omega (arith, c .loss-after-loss .ensures .low) in
+    let lost : c .loss-after-loss .result ≡ lossAfter (c .args .step .mark) (lossOf (c .args .request) (c .args .at) + c .args .w .loss) = c .loss-after-loss .ensures ∙ ap (λ (z : ℕ). lossAfter (c .args .step .mark) (z + c .args .w .loss)) (c .loss-of .ensures .same) in
+    let low = after-low (c .args .request) (c .args .step .mark) _ _ (c .pre .goes .arrives) lost in
+    let h : c .loss-after-loss .result < c .args .request .bound + 1 = omega (arith, low) in
     let lt : c .args .w .to * (c .args .request .bound + 1) + c .loss-after-loss .result < m .places * (c .args .request .bound + 1) = digits-lt (b .to-in _ _ (c .pre .goes .opens)) h in
-    let same = c .cell-of-target .ensures .same in
+    let same = c .cell-of-target .ensures in
     record {
       inside = omega (arith, r .rows-suffice);
       room = omega (arith, r .queue-suffices);
@@ -73,18 +78,21 @@ returns g c =
     let waits′ = g .Q·PriorityQueue .waits (c .offer .last .queue) in
     let at = c .cell-of-target .result in
     let new : Cell (g .S·Charge .Denot) = record { charge = c .charge-after-charge .result; state = Waiting; from = c .args .at; way = c .args .step .way; mark = c .args .step .mark; steps = c .args .here .steps + 1 } in
-    let h : c .loss-after-loss .result < c .args .request .bound + 1 = omega (arith, c .loss-after-loss .ensures .low) in
+    let lost : c .loss-after-loss .result ≡ lossAfter (c .args .step .mark) (lossOf (c .args .request) (c .args .at) + c .args .w .loss) = c .loss-after-loss .ensures ∙ ap (λ (z : ℕ). lossAfter (c .args .step .mark) (z + c .args .w .loss)) (c .loss-of .ensures .same) in
+    let low = after-low (c .args .request) (c .args .step .mark) _ _ (c .pre .goes .arrives) lost in
+    let h : c .loss-after-loss .result < c .args .request .bound + 1 = omega (arith, low) in
     let lt : c .args .w .to * (c .args .request .bound + 1) + c .loss-after-loss .result < m .places * (c .args .request .bound + 1) = digits-lt (b .to-in _ _ (c .pre .goes .opens)) h in
     let size = length-map (c .args .cells .now) (λ r. r .cell) in
-    let inside : at < length rows = omega (arith, c .cell-of-target .ensures .same, c .pre .room .rows-suffice) in
-    let loss = c .cell-of-target .ensures .loss ∙ c .loss-after-loss .ensures .same in
+    let inside : at < length rows = omega (arith, c .cell-of-target .ensures, c .pre .room .rows-suffice) in
+    let place = cell-place (c .args .request) (c .args .w .to) _ at low (c .cell-of-target .ensures) in
+    let loss = cell-loss (c .args .request) (c .args .w .to) _ at low (c .cell-of-target .ensures) ∙ lost in
     let next : Next k m (c .args .request) rows at new = record {
       before = c .args .here;
       row = turn .row;
       settled = turn .settled;
       over = c .args .w;
       goes = c .pre .goes;
-      place = c .cell-of-target .ensures .place;
+      place = place;
       loss = loss;
       charge = c .charge-after-charge .ensures;
       steps = refl;
@@ -99,5 +107,5 @@ returns g c =
       turn = offer-turn k laws m (c .args .request) rows rows′ waits waits′ at new inside refl o (c .args .at) (c .args .here) turn up next (steps-few _ _ _ _ _ _ _ turn);
       keeps = λ p l sum h. offer-covered-on k laws m (c .args .request) rows rows′ waits waits′ at new inside refl o p l sum h;
       covered = subst (λ z. Covered k (c .args .request) (doneIn rows′) waits′ (c .args .w .to) (lossAfter (c .args .step .mark) (lossOf (c .args .request) (c .args .at) + c .args .w .loss)) z) (c .charge-after-charge .ensures)
-          (offer-covered-at k laws m (c .args .request) rows rows′ waits waits′ at new inside refl o (c .args .w .to) _ (c .cell-of-target .ensures .place) loss);
+          (offer-covered-at k laws m (c .args .request) rows rows′ waits waits′ at new inside refl o (c .args .w .to) _ place loss);
     }

@@ -37,14 +37,8 @@ returns-then-w-place-of g c =
       offered = (away-offered k laws m ask (doneIn rows) waits (c .args .at) (c .args .here .charge) (c .args .n) (c .in-Some .w) (sym (c .in-Some .ensures tt)) (λ e. c .if-w-place-of .taken (e ∙ sym (c .place-of .ensures))));
     }
 
-pub add-loss-of : need.add-loss-of
-add-loss-of g c =
-    let b = g .S·Site·met .bounded (c .args .site .now) in
-    let h = b .loss-in (c .args .n) (c .in-Some .w) (sym (c .in-Some .ensures tt)) in
-    omega (arith, c .loss-of .ensures .low, c .pre .room .bound)
-
-pub returns-then-loss-of-w : need.returns-then-loss-of-w
-returns-then-loss-of-w g c =
+pub returns-then-not-within-bound : need.returns-then-not-within-bound
+returns-then-not-within-bound g c =
     let k = kindOf (g .Charge·Charge) in
     let laws = lawsOf g in
     let m = g .S·Site .meaning (c .args .site .now) in
@@ -58,7 +52,7 @@ returns-then-loss-of-w g c =
       count = refl;
       turn = (c .pre .turn);
       keeps = λ p l sum h. h;
-      offered = (far-offered k laws m ask (doneIn rows) waits (c .args .at) (c .args .here .charge) (c .args .n) (c .in-Some .w) (sym (c .in-Some .ensures tt)) (let h = c .if-loss-of-w .taken in let e = c .loss-of .ensures .same in omega arith));
+      offered = (far-offered k laws m ask (doneIn rows) waits (c .args .at) (c .args .here .charge) (c .args .n) (c .in-Some .w) (sym (c .in-Some .ensures tt)) (let h = c .within-bound .ensures .no (c .if-not-within-bound .taken) in let e = c .loss-of .ensures .same in omega arith));
     }
 
 pub returns-then-markable : need.returns-then-markable
@@ -125,7 +119,7 @@ arrive-requires-then-markable g c κs = record {
   goes = record {
     opens = sym (c .in-Some .ensures tt);
     leaves = c .if-w-place-of .left ∙ c .place-of .ensures;
-    arrives = (let h = c .if-loss-of-w .left in let e = c .loss-of .ensures .same in omega arith);
+    arrives = (let h = c .within-bound .ensures .yes (c .if-not-within-bound .left) in let e = c .loss-of .ensures .same in omega arith);
     marks = c .if-markable .ensures tt .yes refl;
   };
 }

@@ -9,7 +9,7 @@ use Rattle.std.specs.declared.result.Result.the-variants.{Ok, Err}
 use Rattle.site.specs.Whole.{kindOf}
 use Rattle.search.specs.Search.{Laws}
 use Rattle.search.specs.Columns.{cellsOf}
-use Rattle.search.proofs.Tables.{offered-over, offered-none, ok-since}
+use Rattle.search.proofs.Tables.{offered-over, offered-none}
 use Rattle.planner.proofs.offer.offer.Given as given
 use Rattle.planner.proofs.offer.offer.Needs as need
 
@@ -24,11 +24,11 @@ returns-then-better g c =
     let size = length-map (c .args .cells .now) (λ r. r .cell) in
     let inside : c .args .at < length (cellsOf (c .args .cells .now)) = omega (arith, c .pre .inside) in
     record {
-      ordered = c .put .ensures .ordered;
-      many = c .put .ensures .many;
+      ordered = c .enter .ensures .ordered;
+      many = c .enter .ensures .many;
       index = c .set-row .ensures .index;
-      offered = subst (λ rs. Offering (kindOf (g .C·Charge)) (cellsOf (c .args .cells .now)) rs (g .Q·PriorityQueue .waits (c .args .queue .now)) (g .Q·PriorityQueue .waits (c .put .last .self)) (c .args .at) (c .args .new)) (sym (c .set-row .ensures .cells)) (offered-over _ laws ((cellsOf (c .args .cells .now))) _ _ (c .args .at) (c .row-at-old .result) (c .args .new) inside (c .row-at-old .ensures) (c .pre .agree) (c .pre .waiting) (sym (c .if-better .ensures tt))
-          (ok-since (c .put .result) _ _ (c .put .ensures .answer) (λ _ h. omega (arith, h .1, c .pre .room)) .1));
+      offered = subst (λ rs. Offering (kindOf (g .C·Charge)) (cellsOf (c .args .cells .now)) rs (g .Q·PriorityQueue .waits (c .args .queue .now)) (g .Q·PriorityQueue .waits (c .enter .last .queue)) (c .args .at) (c .args .new)) (sym (c .set-row .ensures .cells)) (offered-over _ laws ((cellsOf (c .args .cells .now))) _ _ (c .args .at) (c .row-at-old .result) (c .args .new) inside (c .row-at-old .ensures) (c .pre .agree) (c .pre .waiting) (sym (c .if-better .ensures tt))
+          (c .enter .ensures .put));
     }
 
 pub returns-else-better : need.returns-else-better

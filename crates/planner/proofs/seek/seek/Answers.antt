@@ -20,8 +20,8 @@ lawsOf g =
     let met = g .Charge·Charge·met in
     record { total = met .total; transitive = met .transitive; monotone = met .monotone; rising = met .rising }
 
-pub returns-then-place-of-request : need.returns-then-place-of-request
-returns-then-place-of-request g c =
+pub returns-then-ends : need.returns-then-ends
+returns-then-ends g c =
     let k = kindOf (g .Charge·Charge) in
     let laws = lawsOf g in
     let m = g .S·Site .meaning (c .args .site .now) in
@@ -34,7 +34,7 @@ returns-then-place-of-request g c =
     record {
       many = c .in-Some .ensures tt .many ∙ inv .1;
       ordered = c .in-Some .ensures tt .ordered;
-      answer = taken-found k laws m ask rows waits waits′ (c .in-Some .at) (c .in-Some .charge) (inv .4) taken (inv .3) (sym (c .place-of .ensures) ∙ c .if-place-of-request .taken);
+      answer = taken-found k laws m ask rows waits waits′ (c .in-Some .at) (c .in-Some .charge) (inv .4) taken (inv .3) (c .if-ends .ensures tt .yes refl);
     }
 
 pub settle-here-requires : need.settle-here-requires
@@ -71,7 +71,7 @@ visit-requires g c κs =
       indexed = indexed-kept m _ _ _ _ (ap (λ (z : ℕ). min (m .ways) z) (sym (c .settle-here .kept .cells ∙ c .loop-at .kept .cells))) (same-index (inv .2) (c .settle-here .ensures .index)) (c .pre .indexed);
       inside = (let size = length-map (c .loop-at .cells) (λ r. r .cell) in omega (arith, c .settle-here .kept .cells));
       ordered = c .in-Some .ensures tt .ordered;
-      turn = settle-turn k laws m ask rows ((cellsOf (c .settle-here .last .cells))) waits waits′ (c .in-Some .at) (c .in-Some .charge) (c .settle-here .result) inside (inv .4) taken (c .settle-here .ensures .settling) (inv .3) (λ e. c .if-place-of-request .left (c .place-of .ensures ∙ e));
+      turn = settle-turn k laws m ask rows ((cellsOf (c .settle-here .last .cells))) waits waits′ (c .in-Some .at) (c .in-Some .charge) (c .settle-here .result) inside (inv .4) taken (c .settle-here .ensures .settling) (inv .3) (c .if-ends .ensures tt .no refl);
     }
 
 pub loop-at-less : need.loop-at-less

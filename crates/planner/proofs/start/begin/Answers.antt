@@ -14,7 +14,7 @@ use Rattle.search.specs.Rows.{Blank}
 use Rattle.search.specs.declared.cell.Cell.{Cell}
 use Rattle.search.specs.declared.cell.State.the-variants.{Waiting}
 use Rattle.search.specs.Columns.{cellsOf}
-use Rattle.search.proofs.Tables.{ok-since}
+use Rattle.search.proofs.Trails.{cell-place, cell-loss}
 use Rattle.search.proofs.Turns.{start-books, start-search}
 use Rattle.planner.proofs.start.begin.Given as given
 use Rattle.planner.proofs.start.begin.Needs as need
@@ -29,7 +29,7 @@ set-row-requires g c κs =
     let m = g .S·Site .meaning (c .args .site .now) in
     let h : 0 < c .args .request .bound + 1 = omega arith in
     let lt : c .args .request .start * (c .args .request .bound + 1) + 0 < m .places * (c .args .request .bound + 1) = digits-lt (c .pre .start) h in
-    omega (arith, c .cell-of-first .ensures .same, c .pre .room .rows-suffice, c .clear .kept .cells, c .build .kept .cells)
+    omega (arith, c .cell-of-first .ensures, c .pre .room .rows-suffice, c .clear .kept .cells, c .build .kept .cells)
 
 pub returns : need.returns
 returns g c =
@@ -43,20 +43,20 @@ returns g c =
     let rows′ = (cellsOf (c .set-row .last .cells)) in
     let at = c .cell-of-first .result in
     let empty = g .Q·PriorityQueue .waits (c .clear-2 .last .self) in
-    let waits = g .Q·PriorityQueue .waits (c .put .last .self) in
+    let waits = g .Q·PriorityQueue .waits (c .enter .last .queue) in
     let new : Cell (g .S·Charge .Denot) = record { charge = c .nothing .result; state = Waiting; from = 0; way = 0; mark = false; steps = 0 } in
     let size = length-map (c .clear .last .cells) (λ r. r .cell) in
-    let inside : at < length rows = omega (arith, c .cell-of-first .ensures .same, c .pre .room .rows-suffice, c .clear .kept .cells, c .build .kept .cells) in
-    let room : at < g .Q·PriorityQueue .many (c .args .queue .now) = omega (arith, c .cell-of-first .ensures .same, c .pre .room .queue-suffices) in
-    let put = ok-since (c .put .result) _ _ (c .put .ensures .answer) (λ _ h. omega (arith, h .1, c .clear-2 .ensures .many)) .1 in
-    let put′ = subst (λ z. Put empty waits at z) (c .nothing-2 .ensures) put in
+    let inside : at < length rows = omega (arith, c .cell-of-first .ensures, c .pre .room .rows-suffice, c .clear .kept .cells, c .build .kept .cells) in
+    let put = subst (λ z. Put empty waits at z) (c .nothing-2 .ensures) (c .enter .ensures .put) in
+    let place = cell-place ask (ask .start) 0 at (omega arith) (c .cell-of-first .ensures) in
+    let loss = cell-loss ask (ask .start) 0 at (omega arith) (c .cell-of-first .ensures) in
     let blank = subst (λ (n : ℕ). Blank rows n) (sym (size ∙ c .clear .kept .cells)) (c .clear .ensures .blank) in
     record {
-      ordered = c .put .ensures .ordered;
-      many = c .put .ensures .many ∙ c .clear-2 .ensures .many;
+      ordered = c .enter .ensures .ordered;
+      many = c .enter .ensures .many ∙ c .clear-2 .ensures .many;
       indexed = indexed-kept m _ _ _ _ (ap (λ (z : ℕ). min (m .ways) z) (c .clear .kept .cells)) (c .set-row .ensures .index) (c .build .ensures .indexed);
-      searching = start-search k laws m ask rows rows′ empty waits at new inside blank (c .set-row .ensures .cells ∙ ap (λ rs. set rs at new) (c .build .ensures .cells)) (c .clear-2 .ensures .empty) put′ refl (c .nothing .ensures) refl (c .cell-of-first .ensures .place) (c .cell-of-first .ensures .loss);
-      books = start-books k laws m ask rows rows′ empty waits at new inside blank (c .set-row .ensures .cells ∙ ap (λ rs. set rs at new) (c .build .ensures .cells)) (c .clear-2 .ensures .empty) put′ refl (c .nothing .ensures) refl (c .cell-of-first .ensures .place) (c .cell-of-first .ensures .loss);
+      searching = start-search k laws m ask rows rows′ empty waits at new inside blank (c .set-row .ensures .cells ∙ ap (λ rs. set rs at new) (c .build .ensures .cells)) (c .clear-2 .ensures .empty) put refl (c .nothing .ensures) refl place loss;
+      books = start-books k laws m ask rows rows′ empty waits at new inside blank (c .set-row .ensures .cells ∙ ap (λ rs. set rs at new) (c .build .ensures .cells)) (c .clear-2 .ensures .empty) put refl (c .nothing .ensures) refl place loss;
     }
 
 pub cell-of-first-requires : need.cell-of-first-requires
@@ -64,3 +64,10 @@ cell-of-first-requires g c κs =
     let b = g .S·Site·met .bounded (c .args .site .now) in
     let f = b .few-places in
     record { bound = c .pre .room .bound; place = omega (arith, c .pre .start); loss = omega arith }
+
+pub enter-requires : need.enter-requires
+enter-requires g c κs =
+    let m = g .S·Site .meaning (c .args .site .now) in
+    let h : 0 < c .args .request .bound + 1 = omega arith in
+    let lt : c .args .request .start * (c .args .request .bound + 1) + 0 < m .places * (c .args .request .bound + 1) = digits-lt (c .pre .start) h in
+    record { room = omega (arith, c .cell-of-first .ensures, c .pre .room .queue-suffices, c .clear-2 .ensures .many); ordered = c .clear-2 .ensures .ordered }
