@@ -39,10 +39,10 @@ pub record Untouched {C Q : Type 0} (cells cells′ : List (Row C)) (queue queue
 -- run, and the run rows are as they were
 abbrev pub Refused : {C Q : Type 0} → SiteMeaning C → Request → ℕ → List (Row C) → List (Row C) → Q → Q → List Step → List Step → Refusal → Type 0
 Refused m q many cells cells′ queue queue′ run run′ e =
-    (Stopped m q (length cells) many (length run) e × Untouched cells cells′ queue queue′ run run′)
-    ⊎ ((e ≡ NoRun) × Passed m q (length cells) many (length run) × NoLawful m q × (run′ ≡ run))
+    (Stopped (m .places) q (length cells) many (length run) e × Untouched cells cells′ queue queue′ run run′)
+    ⊎ ((e ≡ NoRun) × Passed (m .places) q (length cells) many (length run) × NoLawful m q × (run′ ≡ run))
 
 -- a plan: a request that passes gets a least run, or it is refused; and the queue has as many rows as before
 pub record Outcome {C Q : Type 0} (k : Kind C) (m : SiteMeaning C) (q : Request) (many many′ : ℕ) (cells cells′ : List (Row C)) (queue queue′ : Q) (run run′ : List Step) (r : Result (Planned C) Refusal) : Type 0 where
-  pub answer : Cases r (λ p. Passed m q (length cells) many (length run) × Handed k m q run run′ p) (λ e. Refused m q many cells cells′ queue queue′ run run′ e)
+  pub answer : Cases r (λ p. Passed (m .places) q (length cells) many (length run) × Handed k m q run run′ p) (λ e. Refused m q many cells cells′ queue queue′ run run′ e)
   pub rows : many′ ≡ many

@@ -1,23 +1,23 @@
--- Why a request is refused before any search, in the order in which the causes are looked for. Stands on the meaning of a site.
+-- Why a request to a site with so many places is refused before any search, in the order in which the causes are looked for.
+-- Stands on nothing but the request and the refusals.
 use mathlib.Core.Path.{_≡_}
 use mathlib.Core.Logic.{_⊎_}
 use Prim.Native.Nat.{ℕ, _+_, _*_, _≤_, _<_}
 use Rattle.refusal.specs.declared.Refusal.{Refusal}
 use Rattle.refusal.specs.declared.Refusal.the-variants.{NoSuchPlace, WrongBound, TooFewRows}
 use Rattle.site.specs.declared.run.Request.{Request}
-use Rattle.site.specs.Meaning.{SiteMeaning}
 
 -- the rows of each sort that a plan needs: one for each place with each loss from 0 to the bound
-abbrev pub needed : {C : Type 0} → SiteMeaning C → Request → ℕ
-needed m q = m .places * (q .bound + 1)
+abbrev pub needed : ℕ → Request → ℕ
+needed places q = places * (q .bound + 1)
 
 -- the start and the end are places of the site, or one of them is not
-pub record PlacesStand {C : Type 0} (m : SiteMeaning C) (q : Request) : Type 0 where
-  pub start : q .start < m .places
-  pub end : q .end < m .places
+pub record PlacesStand (places : ℕ) (q : Request) : Type 0 where
+  pub start : q .start < places
+  pub end : q .end < places
 
-abbrev pub PlaceMissing : {C : Type 0} → SiteMeaning C → Request → Type 0
-PlaceMissing m q = (m .places ≤ q .start) ⊎ (m .places ≤ q .end)
+abbrev pub PlaceMissing : ℕ → Request → Type 0
+PlaceMissing places q = (places ≤ q .start) ⊎ (places ≤ q .end)
 
 -- the bound is 1 to 1,000, or it is not
 pub record BoundStands (q : Request) : Type 0 where
@@ -37,14 +37,14 @@ abbrev pub RowsMissing : ℕ → ℕ → ℕ → ℕ → Type 0
 RowsMissing n cells many steps = (cells < n) ⊎ ((many < n) ⊎ (steps < n))
 
 -- nothing speaks against a search
-pub record Passed {C : Type 0} (m : SiteMeaning C) (q : Request) (cells many steps : ℕ) : Type 0 where
-  pub places : PlacesStand m q
-  pub bound : BoundStands q
-  pub rows : RowsSuffice (needed m q) cells many steps
+pub record Passed (places : ℕ) (q : Request) (cells many steps : ℕ) : Type 0 where
+  pub places-stand : PlacesStand places q
+  pub bound-stands : BoundStands q
+  pub rows-suffice : RowsSuffice (needed places q) cells many steps
 
 -- the refusal e names the first cause that speaks against a search: a missing place before a wrong bound before too few rows
-abbrev pub Stopped : {C : Type 0} → SiteMeaning C → Request → ℕ → ℕ → ℕ → Refusal → Type 0
-Stopped m q cells many steps e =
-    ((e ≡ NoSuchPlace) × PlaceMissing m q)
-    ⊎ (((e ≡ WrongBound) × PlacesStand m q × BoundWrong q)
-    ⊎ ((e ≡ TooFewRows) × PlacesStand m q × BoundStands q × RowsMissing (needed m q) cells many steps))
+abbrev pub Stopped : ℕ → Request → ℕ → ℕ → ℕ → Refusal → Type 0
+Stopped places q cells many steps e =
+    ((e ≡ NoSuchPlace) × PlaceMissing places q)
+    ⊎ (((e ≡ WrongBound) × PlacesStand places q × BoundWrong q)
+    ⊎ ((e ≡ TooFewRows) × PlacesStand places q × BoundStands q × RowsMissing (needed places q) cells many steps))

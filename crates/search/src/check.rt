@@ -14,7 +14,7 @@ pub fn rows_needed<S: Site>(
     many: usize,
     steps: usize,
 ) -> Result<usize, Refusal>
-    ensures { λ r. ⌜ Cases r (λ n. Passed (S·Site .meaning (now (site .entry))) request cells many steps × (n ≡ needed (S·Site .meaning (now (site .entry))) request)) (λ e. Stopped (S·Site .meaning (now (site .entry))) request cells many steps e) ⌝ }
+    ensures { λ r. ⌜ Cases r (λ n. Passed (S·Site .meaning (now (site .entry)) .places) request cells many steps × (n ≡ needed (S·Site .meaning (now (site .entry)) .places) request)) (λ e. Stopped (S·Site .meaning (now (site .entry)) .places) request cells many steps e) ⌝ }
 {
     let places = site.places();
     if request.start >= places || request.end >= places {
