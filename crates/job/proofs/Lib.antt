@@ -1,0 +1,2 @@
+pub mod Shuts
+pub mod Lists

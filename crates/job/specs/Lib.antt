@@ -1,0 +1,4 @@
+pub mod Book
+pub mod Jobs
+pub mod Bounds
+pub mod Replay
