@@ -1,0 +1,50 @@
+// Runs that were drawn by hand: whether one is lawful, and its total.
+ghost use mathlib.Core.Path.{_≡_};
+ghost use Rattle.std.specs.Options.{Cases as BySome};
+ghost use Rattle.site.specs.Runs.{Goes, Run, total};
+ghost use Rattle.site.specs.Whole.{kindOf};
+ghost use Rattle.site.specs.declared.way.Way.{Way as OpenWay};
+ghost use Rattle.pricing.specs.Stands.{Gone};
+use charge::kind::Charge;
+use search::step::charge_after;
+use search::step::loss_after;
+use search::step::markable;
+use search::step::within_bound;
+use site::run::Request;
+use site::run::Step;
+use site::site::Site;
+
+// Where a run has come to: a place, what it has lost since the last repeater, and its total so far.
+#[derive(Clone, Copy)]
+pub struct Stand<C> {
+    pub place: usize,
+    pub loss: usize,
+    pub sum: C,
+}
+
+// Where a step leads from where the run stands, or none where it may not be made.
+pub fn step_on<S: Site>(site: &S, request: Request, here: Stand<S::Charge>, step: Step) -> Option<Stand<S::Charge>>
+    ensures { λ r. ⌜ BySome r ((w : OpenWay S·Charge) → Goes (S·Site .meaning (now (site .entry))) request (here .place) (here .loss) step w → ⊥) (λ t. Gone (kindOf Charge·Charge) (S·Site .meaning (now (site .entry))) request here step t) ⌝ }
+{
+    let way = site.way(step.way)?;
+    if way.from != here.place || !within_bound(request, here.loss, way.loss) {
+        return None;
+    }
+    if step.mark && !markable(site, request, way.to) {
+        return None;
+    }
+    let loss = loss_after(step.mark, here.loss + way.loss as usize);
+    let sum = charge_after(site, here.sum, step.mark, way);
+    Some(Stand { place: way.to, loss, sum })
+}
+
+// The total of a run, or none where the steps are no lawful run for the request.
+pub fn total_of<S: Site>(site: &S, request: Request, steps: &[Step]) -> Option<S::Charge>
+    ensures { λ r. ⌜ BySome r (Run (S·Site .meaning (now (site .entry))) request (now (steps .entry)) → ⊥) (λ c. Run (S·Site .meaning (now (site .entry))) request (now (steps .entry)) × (c ≡ total (kindOf Charge·Charge) (S·Site .meaning (now (site .entry))) (now (steps .entry)))) ⌝ }
+{
+    let mut here = Stand { place: request.start, loss: 0, sum: S::Charge::nothing() };
+    for step in steps {
+        here = step_on(site, request, here, *step)?;
+    }
+    if here.place == request.end { Some(here.sum) } else { None }
+}
