@@ -1,9 +1,10 @@
 -- A run is followed from its start: it is lawful just if what is left of it leads on lawfully from where it has come to,
 -- and its total is that of what is left upon the total so far. By one step at a time.
+use mathlib.Core.Bool.{false}
 use mathlib.Core.Path.{_≡_, refl, sym, ap, subst, _∙_}
 use mathlib.Core.List.{List, [], _∷_}
 use Prim.Native.Nat.{ℕ, _+_, _<_, _≤_}
-use lib.ListN.{length, drop}
+use lib.ListN.{length, getD, drop}
 use Rattle.std.specs.declared.option.Option.{Option}
 use Rattle.std.specs.declared.option.Option.the-variants.{Some}
 use Rattle.std.proofs.shelf.Lists.{drop-more, drop-all}
@@ -42,5 +43,13 @@ module _ {C : Type 0} (k : Kind C) (m : SiteMeaning C) (q : Request) (steps : Li
   pub not-followed : (here : Stand C) (s : Step) (rest : List Step) → ((w : Way C) → Goes m q (here .place) (here .loss) s w → ⊥) → Followed here (s ∷ rest) → Run m q steps → ⊥
   not-followed here s rest no-way f r = let l = f .back r in no-way (l .0) (l .1)
 
-  pub next-of : (i : ℕ) (s : Step) → i < length steps → drop i steps ≡ s ∷ drop (i + 1) steps → (here : Stand C) → Followed here (drop i steps) → Followed here (s ∷ drop (i + 1) steps)
-  next-of i s h e here f = subst (Followed here) e f
+  -- the next step, by its number
+  abbrev pub stepAt : ℕ → Step
+  stepAt i = getD steps i (record { way = 0; mark = false })
+
+  pub followed-next : (i : ℕ) (here : Stand C) → i < length steps → Followed here (drop i steps) → Followed here (stepAt i ∷ drop (i + 1) steps)
+  followed-next i here h f = subst (Followed here) (drop-more steps i (record { way = 0; mark = false }) h) f
+
+  -- nothing is left
+  pub followed-all : (i : ℕ) (here : Stand C) → length steps ≤ i → Followed here (drop i steps) → Followed here []
+  followed-all i here h f = subst (Followed here) (drop-all i steps h) f

@@ -1,7 +1,8 @@
 // Runs that were drawn by hand: whether one is lawful, and its total.
 ghost use mathlib.Core.Path.{_≡_};
 ghost use Rattle.std.specs.Options.{Cases as BySome};
-ghost use Rattle.site.specs.Runs.{Goes, Run, total};
+ghost use Rattle.site.specs.Runs.{Goes, MarkAllowed, Run, total};
+ghost use mathlib.Core.Bool.{true};
 ghost use Rattle.site.specs.Whole.{kindOf};
 ghost use Rattle.site.specs.declared.way.Way.{Way as OpenWay};
 ghost use Rattle.pricing.specs.Stands.{Gone};
@@ -22,15 +23,26 @@ pub struct Stand<C> {
     pub sum: C,
 }
 
+// Whether a step may mark a repeater at a place, if it does.
+fn mark_allowed<S: Site>(site: &S, request: Request, mark: bool, place: usize) -> bool
+    ensures yes { λ r. ⌜ (r ≡ true → MarkAllowed (S·Site .meaning (now (site .entry))) request mark place) ⌝ }
+    ensures back { λ r. ⌜ (MarkAllowed (S·Site .meaning (now (site .entry))) request mark place → r ≡ true) ⌝ }
+{
+    if mark { markable(site, request, place) } else { true }
+}
+
 // Where a step leads from where the run stands, or none where it may not be made.
 pub fn step_on<S: Site>(site: &S, request: Request, here: Stand<S::Charge>, step: Step) -> Option<Stand<S::Charge>>
     ensures { λ r. ⌜ BySome r ((w : OpenWay S·Charge) → Goes (S·Site .meaning (now (site .entry))) request (here .place) (here .loss) step w → ⊥) (λ t. Gone (kindOf Charge·Charge) (S·Site .meaning (now (site .entry))) request here step t) ⌝ }
 {
     let way = site.way(step.way)?;
-    if way.from != here.place || !within_bound(request, here.loss, way.loss) {
+    if way.from != here.place {
         return None;
     }
-    if step.mark && !markable(site, request, way.to) {
+    if !within_bound(request, here.loss, way.loss) {
+        return None;
+    }
+    if !mark_allowed(site, request, step.mark, way.to) {
         return None;
     }
     let loss = loss_after(step.mark, here.loss + way.loss as usize);
