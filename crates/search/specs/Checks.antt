@@ -27,6 +27,10 @@ pub record BoundStands (q : Request) : Type 0 where
 abbrev pub BoundWrong : Request → Type 0
 BoundWrong q = (q .bound ≡ 0) ⊎ (1000 < q .bound)
 
+-- the refusal e names the first cause that speaks against a request by itself: a missing place before a wrong bound
+abbrev pub AskedWrong : ℕ → Request → Refusal → Type 0
+AskedWrong places q e = ((e ≡ NoSuchPlace) × PlaceMissing places q) ⊎ ((e ≡ WrongBound) × PlacesStand places q × BoundWrong q)
+
 -- there are n cell rows, n queue rows and n run rows, or there are fewer of one sort
 pub record RowsSuffice (n cells many steps : ℕ) : Type 0 where
   pub of-cells : n ≤ cells
