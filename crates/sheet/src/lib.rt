@@ -1,4 +1,6 @@
 // What programs print: decimal numbers, refusal lines and the sheet of a run.
 pub mod digits;
-pub mod refused;
 pub mod text;
+pub mod refused;
+pub mod lines;
+
