@@ -1,2 +1,3 @@
 pub mod Spelling
 pub mod Growing
+pub mod Stepping

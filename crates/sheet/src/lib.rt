@@ -3,4 +3,4 @@ pub mod digits;
 pub mod text;
 pub mod refused;
 pub mod lines;
-
+pub mod steps;

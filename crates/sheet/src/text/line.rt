@@ -1,5 +1,6 @@
 ghost use mathlib.Core.Path.{_≡_};
 ghost use mathlib.Core.List.{[], _∷_};
+ghost use lib.ListN.{length};
 ghost use Rattle.std.specs.Written.{decimal};
 ghost use Rattle.bytes.specs.Lay.{placed, over};
 ghost use Rattle.sheet.specs.Lines.{textOf, pushed};
@@ -16,6 +17,13 @@ impl TextLine {
             bytes: [0; 128],
             length: 0,
         }
+    }
+
+    // How many bytes the text has.
+    pub(crate) fn len(&self) -> usize
+        ensures { λ r. ⌜ r ≡ length (textOf (now (self .entry))) ⌝ }
+    {
+        self.length
     }
 
     // The text grows by a piece, where there is room for it.
