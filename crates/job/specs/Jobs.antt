@@ -3,9 +3,7 @@ use mathlib.Core.Bool.{Bool, false, cond}
 use Prim.Native.Nat.{ℕ}
 use lib.ListN.{getD}
 use Rattle.std.specs.Of.Vec.{vec-items}
-use Rattle.std.specs.declared.option.Option.{Option}
-use Rattle.std.specs.declared.option.Option.the-variants.{Some, None}
-use Rattle.site.specs.declared.way.Way.{Way}
+use Rattle.std.specs.declared.option.Option.the-variants.{None}
 use Rattle.site.specs.Meaning.{SiteMeaning}
 use Rattle.job.specs.declared.job.Job.{Job}
 

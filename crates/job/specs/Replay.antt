@@ -14,7 +14,7 @@ use Rattle.refusal.specs.declared.Refusal.the-variants.{NoRun}
 use Rattle.site.specs.declared.run.Step.{Step}
 use Rattle.site.specs.declared.run.Request.{Request}
 use Rattle.site.specs.Meaning.{SiteMeaning}
-use Rattle.site.specs.Runs.{Least, NoneTwice}
+use Rattle.site.specs.Runs.{Least}
 use Rattle.search.specs.declared.cell.Row.{Row}
 use Rattle.search.specs.Checks.{Passed, Stopped}
 use Rattle.planner.specs.declared.planned.Planned.{Planned}

@@ -1,8 +1,8 @@
 ghost use mathlib.Core.Path.{_≡_};
-ghost use mathlib.Core.Bool.{Bool, true, false};
-ghost use Prim.Native.Nat.{ℕ, _<_, _≤_, _+_, min};
+ghost use mathlib.Core.Bool.{true, false};
+ghost use Prim.Native.Nat.{_<_, _+_, min};
 ghost use lib.ListN.{length};
-ghost use Rattle.std.specs.declared.option.Option.the-variants.{Some, None};
+ghost use Rattle.std.specs.declared.option.Option.the-variants.{Some};
 ghost use Rattle.site.specs.Runs.{afterWay, lossAfter, Goes};
 ghost use Rattle.site.specs.Whole.{kindOf};
 ghost use Rattle.search.specs.Cells.{placeOf, lossOf};

@@ -1,6 +1,6 @@
 // Cells by number: place × (bound + 1) + loss.
 ghost use mathlib.Core.Path.{_≡_};
-ghost use Prim.Native.Nat.{ℕ, _<_, _≤_, _+_, _*_};
+ghost use Prim.Native.Nat.{_<_, _≤_, _+_, _*_};
 ghost use Rattle.search.specs.Cells.{placeOf, lossOf};
 use site::run::Request;
 

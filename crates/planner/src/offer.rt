@@ -1,14 +1,14 @@
 ghost use mathlib.Core.Path.{_≡_};
-ghost use mathlib.Core.Bool.{Bool, true, false};
-ghost use Prim.Native.Nat.{ℕ, _<_, _≤_};
+ghost use mathlib.Core.Bool.{true, false};
+ghost use Prim.Native.Nat.{_<_};
 ghost use lib.ListN.{length, set};
 ghost use Rattle.std.specs.Finite.{nth};
-ghost use Rattle.std.specs.declared.option.Option.the-variants.{Some, None};
+ghost use Rattle.std.specs.declared.option.Option.the-variants.{Some};
 ghost use Rattle.site.specs.Whole.{kindOf};
 ghost use Rattle.queue.specs.Waits.{Put};
 ghost use Rattle.search.specs.Rows.{Agree, Offering, improvesAs, doneIn};
 ghost use Rattle.search.specs.declared.cell.State.the-variants.{Waiting};
-ghost use Rattle.search.specs.Columns.{cellsOf, headsOf, nextsOf, SameIndex};
+ghost use Rattle.search.specs.Columns.{cellsOf, SameIndex};
 use charge::kind::Charge;
 use queue::queue::PriorityQueue;
 use search::cell::Cell;

@@ -1,12 +1,10 @@
 ghost use mathlib.Core.Path.{_≡_};
-ghost use Prim.Native.Nat.{ℕ, _<_, _≤_, _+_, min};
+ghost use Prim.Native.Nat.{ℕ, _<_, min};
 ghost use lib.ListN.{length, getD};
-ghost use Rattle.std.specs.Finite.{nth};
-ghost use Rattle.std.specs.declared.option.Option.the-variants.{Some, None};
 ghost use Rattle.site.specs.Whole.{kindOf};
 ghost use Rattle.search.specs.Search.{Searching};
 ghost use Rattle.search.specs.Rows.{Room, Books, Blank, doneIn};
-ghost use Rattle.search.specs.Columns.{cellsOf, headsOf, nextsOf, SameIndex};
+ghost use Rattle.search.specs.Columns.{cellsOf, headsOf, nextsOf};
 ghost use Rattle.search.specs.Index.{Indexed};
 use crate::index::build;
 use crate::number::cell_of;

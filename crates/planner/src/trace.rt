@@ -1,11 +1,10 @@
 ghost use mathlib.Core.Path.{_≡_};
-ghost use mathlib.Core.List.{List};
-ghost use Prim.Native.Nat.{ℕ, _<_, _≤_, _+_};
+ghost use Prim.Native.Nat.{_<_, _≤_};
 ghost use lib.ListN.{length, take, drop, set};
 ghost use Rattle.site.specs.Runs.{Least, NoneTwice};
 ghost use Rattle.site.specs.Whole.{kindOf};
 ghost use Rattle.search.specs.Rows.{Found};
-ghost use Rattle.search.specs.Columns.{cellsOf, headsOf, nextsOf, SameIndex};
+ghost use Rattle.search.specs.Columns.{cellsOf};
 use crate::offer::row_at;
 use crate::planned::Planned;
 use charge::kind::Charge;

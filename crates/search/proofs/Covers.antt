@@ -3,7 +3,7 @@
 -- told of by a waiting charge no higher than its total, by induction over the run from its front (told); so the lowest
 -- waiting charge is no more than any total (lowest), and where none waits there is no lawful run (no-run).
 use mathlib.Core.Path.{_≡_, refl, sym, ap, subst, _∙_}
-use mathlib.Core.Bool.{Bool, true, false, cond}
+use mathlib.Core.Bool.{Bool, true, false}
 use mathlib.Core.List.{List, [], _∷_}
 use mathlib.Core.Logic.{_≢_, _⊎_, inl, inr, ⊎-elim}
 use Prim.Native.Nat.{ℕ, _+_, _≤_, _<_}
@@ -19,7 +19,7 @@ use Rattle.charge.specs.Kind.{Kind}
 use Rattle.site.specs.Runs.{Goes, lossAfter, afterWay, withRepeater, Lawful, totalFrom, total, Run, Lowest}
 use Rattle.queue.specs.Waits.{Put, Taken}
 use Rattle.search.specs.Cells.{placeOf, lossOf}
-use Rattle.search.specs.Search.{Laws, Covered, stepOf, Offered, Searching, Expanding, Entered, Dominated}
+use Rattle.search.specs.Search.{Laws, Covered, Offered, Searching, Expanding, Entered, Dominated}
 
 module _ {C : Type 0} (k : Kind C) (laws : Laws k) where
   pub same : (a : C) → k .within a a ≡ true

@@ -1,26 +1,22 @@
 -- Rows, read and written: what one write does to each row and to each column, and what an offer to a cell leaves, whether
 -- it is written or not. By induction over the rows, and by cases over the state of the row that is offered to.
-use mathlib.Core.Path.{_≡_, refl, sym, ap, subst, _∙_}
-use mathlib.Core.Bool.{Bool, true, false, cond, not}
+use mathlib.Core.Path.{_≡_, refl, sym, ap, _∙_}
+use mathlib.Core.Bool.{true, false}
 use mathlib.Core.List.{List, [], _∷_, map}
-use mathlib.Core.Logic.{_≢_, _⊎_, inl, inr, ⊎-elim}
-use Prim.Native.Nat.{ℕ, zero, suc, _+_, _≤_, _<_}
+use mathlib.Core.Logic.{_≢_, _⊎_, inl, inr}
+use Prim.Native.Nat.{ℕ, zero, suc, _+_, _<_}
 use native.Mathlib.Omega.{arith}
 use lib.ListN.{length, set, getD}
 use Rattle.std.specs.Finite.{nth}
-use Rattle.std.specs.Results.{Cases}
-use Rattle.std.specs.declared.result.Result.{Result}
-use Rattle.std.specs.declared.result.Result.the-variants.{Ok, Err}
 use Rattle.std.specs.declared.option.Option.{Option}
 use Rattle.std.specs.declared.option.Option.the-variants.{Some, None}
-use Rattle.std.proofs.shelf.Tests.{cases-bool, cases-eq, cases-lt, not-true, not-false}
-use Rattle.site.specs.declared.way.Way.{Way}
+use Rattle.std.proofs.shelf.Tests.{cases-eq, not-true, not-false}
 use Rattle.site.specs.declared.run.Request.{Request}
 use Rattle.site.specs.Meaning.{SiteMeaning}
 use Rattle.charge.specs.Kind.{Kind}
 use Rattle.queue.specs.Waits.{Put}
-use Rattle.search.specs.Search.{Laws, Entered}
-use Rattle.search.specs.Rows.{settledAs, waitsAs, settledRow, waitsRow, doneIn, Agree, oneIf, settledCount, First, Next, Linked, Books, Turn, Offering, improvesAs, Blank, Room}
+use Rattle.search.specs.Search.{Laws}
+use Rattle.search.specs.Rows.{settledAs, waitsAs, settledRow, waitsRow, doneIn, Agree, Offering, improvesAs, Blank, Room}
 use Rattle.search.specs.Columns.{SameIndex, headsOf, nextsOf}
 use Rattle.search.specs.Index.{Indexed}
 use Rattle.search.specs.declared.cell.Row.{Row}
@@ -95,11 +91,6 @@ module _ {C : Type 0} (k : Kind C) (laws : Laws k) (rows : List (Cell C)) (waits
         agree = agree;
         change = inl refl;
       }
-
--- of a Result whose error's clause cannot hold
-pub ok-since : {U E : Type 0} (r : Result U E) (P : Type 0) (Q : E → Type 0) → Cases r (λ _. P) Q → ((e : E) → Q e → ⊥) → P
-ok-since (Ok u) P Q h n = h
-ok-since (Err e) P Q h n = absurd (n e h)
 
 pub blank-more : {C : Type 0} (rows : List (Cell C)) (i : ℕ) (new : Cell C) → i < length rows → new .state ≡ Unseen → Blank rows i → Blank (set rows i new) (i + 1)
 blank-more {C} rows i new inside s b x r h e =

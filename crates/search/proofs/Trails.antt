@@ -3,28 +3,24 @@
 use mathlib.Core.Path.{_≡_, refl, sym, ap, subst, _∙_}
 use mathlib.Core.Bool.{Bool, true, false}
 use mathlib.Core.List.{List, [], _∷_}
-use mathlib.Core.Logic.{_≢_, _⊎_, inl, inr}
+use mathlib.Core.Logic.{inl, inr}
 use Prim.Native.Nat.{ℕ, zero, suc, _+_, _*_, _/_, _%_, _≤_, _<_}
 use native.Mathlib.Omega.{arith}
 use native.Mathlib.Nat.{div-le-self}
 use lib.Arith.{digits-div, digits-mod}
 use lib.ListN.{length, set, take, drop}
 use Rattle.std.specs.Finite.{nth}
-use Rattle.std.specs.declared.option.Option.{Option}
-use Rattle.std.specs.declared.option.Option.the-variants.{Some, None}
+use Rattle.std.specs.declared.option.Option.the-variants.{Some}
 use Rattle.std.proofs.shelf.Bits.{div-add-mod'}
-use Rattle.site.specs.declared.way.Way.{Way}
 use Rattle.site.specs.declared.run.Step.{Step}
 use Rattle.site.specs.declared.run.Request.{Request}
 use Rattle.site.specs.Meaning.{SiteMeaning}
 use Rattle.charge.specs.Kind.{Kind}
-use Rattle.site.specs.Runs.{Lawful, Goes, totalFrom, total, afterWay, lossAfter, Avoids, NoneTwice, placeBehind, lossBehind, Run}
+use Rattle.site.specs.Runs.{Lawful, totalFrom, afterWay, lossAfter, Avoids, NoneTwice, placeBehind, lossBehind}
 use Rattle.search.specs.Cells.{placeOf, lossOf}
 use Rattle.search.specs.Search.{stepOf}
 use Rattle.search.specs.Rows.{First, Next, Linked, Trail, Found, Whole}
 use Rattle.search.specs.declared.cell.Cell.{Cell}
-use Rattle.search.specs.declared.cell.State.{State}
-use Rattle.search.specs.declared.cell.State.the-variants.{Unseen, Waiting, Settled}
 use Rattle.search.proofs.Turns.{some-same}
 
 -- one place with one loss is one cell

@@ -2,9 +2,9 @@
 -- and the links and step counts in the rows. Links survive since they lead to settled rows, which are never written again;
 -- and a waiting row is one that is not settled yet, so the settled ones are fewer than all.
 use mathlib.Core.Path.{_≡_, refl, sym, ap, subst, _∙_, fun-ext}
-use mathlib.Core.Bool.{Bool, true, false, cond, not}
+use mathlib.Core.Bool.{true, false}
 use mathlib.Core.List.{List, [], _∷_}
-use mathlib.Core.Logic.{_≢_, _⊎_, inl, inr, ⊎-elim}
+use mathlib.Core.Logic.{_≢_, _⊎_, inl, inr}
 use Prim.Native.Nat.{ℕ, zero, suc, _+_, _≤_, _<_}
 use native.Mathlib.Omega.{arith}
 use lib.ListN.{length, set}
@@ -16,15 +16,15 @@ use Rattle.site.specs.declared.way.Way.{Way}
 use Rattle.site.specs.declared.run.Request.{Request}
 use Rattle.site.specs.Meaning.{SiteMeaning}
 use Rattle.charge.specs.Kind.{Kind}
-use Rattle.site.specs.Runs.{afterWay, Markable, Goes}
+use Rattle.site.specs.Runs.{afterWay, Markable}
 use Rattle.queue.specs.Waits.{Put, Taken}
 use Rattle.search.specs.Cells.{placeOf, lossOf}
-use Rattle.search.specs.Search.{Laws, Entered, Expanding, Searching, Covered, Keeps, Offered}
-use Rattle.search.specs.Rows.{settledAs, waitsAs, settledRow, waitsRow, doneIn, Agree, oneIf, settledCount, First, Next, Linked, Books, Turn, Offering, asSettled, Settling, Found, Blank}
+use Rattle.search.specs.Search.{Laws, Expanding, Searching, Covered, Keeps, Offered}
+use Rattle.search.specs.Rows.{settledAs, waitsAs, settledRow, waitsRow, doneIn, oneIf, settledCount, Next, Linked, Books, Turn, Offering, asSettled, Settling, Found, Blank}
 use Rattle.search.specs.declared.cell.Cell.{Cell}
 use Rattle.search.specs.declared.cell.State.{State}
 use Rattle.search.specs.declared.cell.State.the-variants.{Unseen, Waiting, Settled}
-use Rattle.search.proofs.Covers.{same, offer-keeps, offer-covers, offer-covered, take-keeps, lowest, start-holds}
+use Rattle.search.proofs.Covers.{offer-keeps, offer-covers, offer-covered, take-keeps, lowest, start-holds}
 use Rattle.search.proofs.Tables.{nth-set-same, nth-set-other}
 
 pub some-same : {X : Type 0} {a b : X} → Some a ≡ Some b → a ≡ b

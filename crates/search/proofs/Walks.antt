@@ -1,10 +1,9 @@
 -- The index of the ways: entering one way after the other keeps it right, since the entered way is the largest so far; and
 -- walking it down from a place passes every way that leaves the place, since none leaves it between two links.
-use mathlib.Core.Path.{_≡_, refl, sym, ap, subst, _∙_}
-use mathlib.Core.Bool.{Bool, true, false}
+use mathlib.Core.Path.{_≡_, sym, ap, subst, _∙_}
 use mathlib.Core.List.{List}
-use mathlib.Core.Logic.{_≢_, _⊎_, inl, inr}
-use Prim.Native.Nat.{ℕ, zero, suc, _+_, _-_, _≤_, _<_}
+use mathlib.Core.Logic.{inl, inr}
+use Prim.Native.Nat.{ℕ, _+_, _-_, _≤_, _<_}
 use native.Mathlib.Omega.{arith}
 use lib.ListN.{length, set, getD}
 use lib.Seq.{getD-set-same, getD-set-other}
@@ -13,9 +12,9 @@ use Rattle.std.specs.declared.option.Option.the-variants.{Some, None}
 use Rattle.std.proofs.shelf.Tests.{cases-eq, cases-lt}
 use Rattle.site.specs.declared.way.Way.{Way}
 use Rattle.site.specs.declared.run.Request.{Request}
-use Rattle.site.specs.Meaning.{SiteMeaning, Bounded}
+use Rattle.site.specs.Meaning.{SiteMeaning}
 use Rattle.charge.specs.Kind.{Kind}
-use Rattle.search.specs.Cells.{placeOf, lossOf}
+use Rattle.search.specs.Cells.{placeOf}
 use Rattle.search.specs.Search.{Laws, Offered, Keeps}
 use Rattle.search.specs.Index.{Leaves, Largest, Indexed}
 use Rattle.search.proofs.Turns.{some-same, none-some}

@@ -16,7 +16,7 @@ use Rattle.site.specs.declared.run.Request.{Request}
 use Rattle.site.specs.Meaning.{SiteMeaning}
 use Rattle.site.specs.Runs.{Goes, lossAfter, afterWay, Lowest, Lawful, totalFrom, Avoids, NoneTwice, Run, total}
 use Rattle.search.specs.Cells.{placeOf, lossOf}
-use Rattle.search.specs.Search.{stepOf, Expanding, Entered, Searching}
+use Rattle.search.specs.Search.{stepOf, Expanding, Entered}
 use Rattle.search.specs.declared.cell.Cell.{Cell}
 use Rattle.search.specs.declared.cell.State.{State}
 use Rattle.search.specs.declared.cell.State.the-variants.{Unseen, Waiting, Settled}

@@ -1,7 +1,7 @@
 // One step of a run: over a way, with a mark where it arrives or without.
 ghost use mathlib.Core.Path.{_≡_};
-ghost use mathlib.Core.Bool.{Bool, true, false};
-ghost use Prim.Native.Nat.{ℕ, _<_, _≤_, _+_};
+ghost use mathlib.Core.Bool.{true, false};
+ghost use Prim.Native.Nat.{_<_, _≤_, _+_};
 ghost use Rattle.std.specs.declared.option.Option.the-variants.{Some};
 ghost use Rattle.site.specs.Runs.{afterWay, lossAfter, Markable};
 ghost use Rattle.site.specs.Whole.{kindOf};

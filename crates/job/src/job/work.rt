@@ -1,6 +1,6 @@
 ghost use mathlib.Core.Path.{_≡_};
-ghost use mathlib.Core.Bool.{Bool, true, false};
-ghost use Prim.Native.Nat.{ℕ, _<_, _≤_};
+ghost use mathlib.Core.Bool.{true, false};
+ghost use Prim.Native.Nat.{ℕ, _<_};
 ghost use Rattle.std.specs.Vec.{made};
 ghost use Rattle.job.specs.Bounds.{shutting-bounded};
 ghost use Rattle.job.specs.Jobs.{siteBelow, closedBy, shutting};

@@ -1,13 +1,10 @@
 -- The job is new, so the book begins empty; after the listed calls the job has closed just what stands in the book, so the plan
 -- made next is one over the site below with the ways of the book shut, and the law follows from the promise of a plan.
-use mathlib.Core.Path.{_≡_, refl, sym, ap, subst, _∙_, fun-ext}
+use mathlib.Core.Path.{_≡_, refl, ap, subst, _∙_, fun-ext}
 use mathlib.Core.Bool.{Bool}
-use mathlib.Core.List.{List}
 use Prim.Native.Nat.{ℕ}
 use lib.ListN.{length}
 use Rattle.site.specs.Whole.{kindOf}
-use Rattle.site.specs.Meaning.{SiteMeaning}
-use Rattle.job.specs.declared.list.Entry.{Entry}
 use Rattle.job.specs.Book.{emptyBook, afterCalls, bookFor}
 use Rattle.job.specs.Jobs.{siteBelow, closedBy, shutting}
 use Rattle.job.specs.Replay.{callsOf, lent, PlanOver, Tries}

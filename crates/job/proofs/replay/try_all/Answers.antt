@@ -1,10 +1,10 @@
 -- Each turn tries one more call over the book that the calls before it left; after the last all have been tried.
-use mathlib.Core.Path.{_≡_, refl, sym, ap, subst, _∙_}
+use mathlib.Core.Path.{_≡_, sym, ap, subst, _∙_}
 use mathlib.Core.Bool.{Bool}
 use mathlib.Core.List.{List}
-use Prim.Native.Nat.{ℕ, _+_, _<_}
+use Prim.Native.Nat.{ℕ, _+_}
 use native.Mathlib.Omega.{arith}
-use lib.ListN.{length, set, take}
+use lib.ListN.{set, take}
 use lib.Seq.{map-set, take-all}
 use Rattle.site.specs.Whole.{kindOf}
 use Rattle.job.specs.declared.list.Call.{Call}

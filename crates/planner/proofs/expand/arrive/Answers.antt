@@ -2,17 +2,17 @@
 -- charge is no less than that of the cell it comes from, since joining never lowers; so the state is kept and the cell covered.
 use mathlib.Core.Path.{_≡_, refl, sym, ap, subst, _∙_}
 use mathlib.Core.Bool.{true}
-use Prim.Native.Nat.{ℕ, _+_, _<_, _≤_, _*_}
+use Prim.Native.Nat.{ℕ, _+_, _<_, _*_}
 use native.Mathlib.Omega.{arith}
 use lib.Arith.{digits-lt}
 use lib.ListN.{length, length-map}
 use Rattle.site.specs.Whole.{kindOf}
-use Rattle.site.specs.Runs.{afterWay, lossAfter}
+use Rattle.site.specs.Runs.{lossAfter}
 use Rattle.search.specs.Cells.{lossOf}
 use Rattle.search.specs.declared.cell.State.the-variants.{Waiting}
-use Rattle.std.specs.declared.option.Option.the-variants.{Some, None}
+use Rattle.std.specs.declared.option.Option.the-variants.{Some}
 use Rattle.search.specs.Search.{Laws, Covered}
-use Rattle.search.specs.Rows.{Turn, Next, settledCount, oneIf, doneIn}
+use Rattle.search.specs.Rows.{Next, doneIn}
 use Rattle.search.specs.declared.cell.Cell.{Cell}
 use Rattle.search.specs.Columns.{cellsOf}
 use Rattle.search.proofs.Covers.{step-rises}

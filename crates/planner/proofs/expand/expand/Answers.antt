@@ -3,17 +3,17 @@
 use mathlib.Core.Path.{_≡_, refl, sym, ap, subst, _∙_}
 use mathlib.Core.List.{List}
 use mathlib.Core.Logic.{inl, inr}
-use Prim.Native.Nat.{ℕ, _+_, _-_, _<_, _≤_, _*_, min}
+use Prim.Native.Nat.{ℕ, _-_, _<_, min}
 use native.Mathlib.Omega.{arith}
 use lib.ListN.{length, getD}
 use Rattle.std.proofs.shelf.Tests.{cases-eq, cases-lt}
 use Rattle.site.specs.Whole.{kindOf}
 use Rattle.search.specs.Cells.{placeOf}
-use Rattle.search.specs.Search.{Laws, Covered, Expanding, Offered}
-use Rattle.search.specs.Rows.{Turn, doneIn}
+use Rattle.search.specs.Search.{Laws, Offered}
+use Rattle.search.specs.Rows.{doneIn}
 use Rattle.search.specs.Columns.{cellsOf, headsOf, nextsOf}
-use Rattle.search.specs.Index.{Indexed, Largest, Leaves}
-use Rattle.search.proofs.Tables.{same-index, room-kept}
+use Rattle.search.specs.Index.{Largest}
+use Rattle.search.proofs.Tables.{same-index}
 use Rattle.search.proofs.Covers.{expanded}
 use Rattle.search.proofs.Trails.{place-below}
 use Rattle.search.proofs.Walks.{idle-offered, walked}

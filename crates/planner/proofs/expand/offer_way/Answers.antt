@@ -1,13 +1,11 @@
 -- A way is offered: where it is shut, leaves another place or loses too much, no lawful step goes over it; else both of its
 -- steps, without and with a mark, lead to cells that are covered now.
-use mathlib.Core.Path.{_≡_, refl, sym, ap, subst, _∙_}
-use mathlib.Core.Bool.{true}
-use Prim.Native.Nat.{ℕ, _+_, _<_, _≤_, _*_}
+use mathlib.Core.Path.{_≡_, refl, sym, _∙_}
+use Prim.Native.Nat.{ℕ}
 use native.Mathlib.Omega.{arith}
 use Rattle.site.specs.Whole.{kindOf}
-use Rattle.std.specs.declared.option.Option.the-variants.{Some, None}
-use Rattle.search.specs.Search.{Laws, Covered}
-use Rattle.search.specs.Rows.{Turn, doneIn}
+use Rattle.search.specs.Search.{Laws}
+use Rattle.search.specs.Rows.{doneIn}
 use Rattle.search.specs.Columns.{cellsOf}
 use Rattle.search.proofs.Tables.{same-index, room-kept}
 use Rattle.search.proofs.Turns.{none-offered, away-offered, far-offered, both-offered}

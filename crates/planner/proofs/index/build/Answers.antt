@@ -1,9 +1,9 @@
 -- The index grows by one way in each turn, from an empty one.
-use mathlib.Core.Path.{_≡_, refl, sym, ap, subst, _∙_}
-use Prim.Native.Nat.{ℕ, _+_, _<_, _≤_, min}
+use mathlib.Core.Path.{_≡_, refl, ap, subst, _∙_}
+use Prim.Native.Nat.{ℕ, min}
 use native.Mathlib.Omega.{arith}
 use lib.ListN.{length}
-use Rattle.search.specs.Columns.{cellsOf, headsOf, nextsOf}
+use Rattle.search.specs.Columns.{headsOf, nextsOf}
 use Rattle.search.specs.Index.{Indexed}
 use Rattle.search.proofs.Walks.{index-none}
 use Rattle.planner.proofs.index.build.Needs as need

@@ -1,10 +1,10 @@
 -- One more way is in the index: a shut one changes nothing, an open one becomes the largest of its place.
 use mathlib.Core.Path.{_≡_, refl, sym, ap, subst, _∙_}
 use mathlib.Core.List.{List}
-use Prim.Native.Nat.{ℕ, _+_, _<_, _≤_}
+use Prim.Native.Nat.{ℕ, _+_}
 use native.Mathlib.Omega.{arith}
-use lib.ListN.{length, length-map, set, getD}
-use Rattle.search.specs.Columns.{cellsOf, headsOf, nextsOf}
+use lib.ListN.{length-map, set, getD}
+use Rattle.search.specs.Columns.{headsOf, nextsOf}
 use Rattle.search.specs.Index.{Indexed}
 use Rattle.search.proofs.Walks.{index-way, index-shut}
 use Rattle.planner.proofs.index.enter_way.Needs as need

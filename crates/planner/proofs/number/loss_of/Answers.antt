@@ -1,6 +1,6 @@
 -- The remainder by bound + 1 is at most the bound.
 use mathlib.Core.Path.{refl}
-use Prim.Native.Nat.{_+_, _<_, _%_}
+use Prim.Native.Nat.{_+_, _<_}
 use native.Mathlib.Omega.{arith}
 use native.Mathlib.Nat.{mod-lt}
 use Rattle.search.specs.Cells.{lossOf}

@@ -1,11 +1,9 @@
 -- An offer is written where it improves the cell, and the queue has room for it; else the cell is held with no more already.
-use mathlib.Core.Path.{_≡_, refl, sym, subst}
+use mathlib.Core.Path.{refl, sym, subst}
 use Rattle.search.specs.Rows.{Offering}
 use Prim.Native.Nat.{_<_}
 use native.Mathlib.Omega.{arith}
 use lib.ListN.{length, length-map}
-use Rattle.std.specs.declared.result.Result.{Result}
-use Rattle.std.specs.declared.result.Result.the-variants.{Ok, Err}
 use Rattle.site.specs.Whole.{kindOf}
 use Rattle.search.specs.Search.{Laws}
 use Rattle.search.specs.Columns.{cellsOf}

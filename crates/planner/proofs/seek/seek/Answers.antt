@@ -1,12 +1,12 @@
 -- Each turn settles one more row, so the loop ends. A taken cell of the end has the lowest total; where nothing waits no run is
 -- lawful; any other cell is settled and its ways are offered, which keeps the state.
-use mathlib.Core.Path.{_≡_, refl, sym, ap, subst, _∙_}
-use Prim.Native.Nat.{ℕ, _+_, _<_, _≤_, _*_}
+use mathlib.Core.Path.{refl, sym, ap, _∙_}
+use Prim.Native.Nat.{ℕ}
 use native.Mathlib.Omega.{arith}
 use lib.ListN.{length-map}
 use Rattle.site.specs.Whole.{kindOf}
 use Rattle.search.specs.Search.{Laws}
-use Rattle.search.specs.Rows.{Turn, doneIn, settledCount, Room}
+use Rattle.search.specs.Rows.{doneIn}
 use Rattle.search.specs.Columns.{cellsOf}
 use Rattle.search.proofs.Covers.{no-run}
 use Prim.Native.Nat.{min}

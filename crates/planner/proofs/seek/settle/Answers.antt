@@ -1,6 +1,5 @@
 -- The row is written as it was, but settled.
-use mathlib.Core.Path.{_≡_, refl}
-use Rattle.search.specs.Columns.{cellsOf}
+use mathlib.Core.Path.{refl}
 use Rattle.planner.proofs.seek.settle.Needs as need
 
 pub returns : need.returns

@@ -1,7 +1,7 @@
 -- After clearing, indexing and one put, the start's cell alone waits, with nothing: the state in which a search begins.
-use mathlib.Core.Path.{_≡_, refl, sym, ap, subst, _∙_}
+use mathlib.Core.Path.{refl, sym, ap, subst, _∙_}
 use mathlib.Core.Bool.{false}
-use Prim.Native.Nat.{ℕ, _+_, _<_, _≤_, _*_}
+use Prim.Native.Nat.{ℕ, _+_, _<_, _*_}
 use native.Mathlib.Omega.{arith}
 use lib.Arith.{digits-lt}
 use lib.ListN.{length, length-map, set}

@@ -2,11 +2,11 @@
 -- begins at the start's cell, and the trail is the whole run.
 use mathlib.Core.Path.{_≡_, refl, sym, ap, subst, _∙_}
 use mathlib.Core.List.{List, [], _∷_}
-use Prim.Native.Nat.{ℕ, suc, _+_, _-_, _<_, _≤_, _*_}
+use Prim.Native.Nat.{ℕ, suc, _-_, _<_}
 use native.Mathlib.Omega.{arith}
 use lib.ListN.{length, take, drop, set, length-map}
 use Rattle.site.specs.Whole.{kindOf}
-use Rattle.site.specs.Runs.{Lowest, NoneTwice}
+use Rattle.site.specs.Runs.{Lowest}
 use Rattle.site.specs.declared.run.Step.{Step}
 use Rattle.search.specs.Search.{stepOf}
 use Rattle.search.specs.Rows.{Trail, Whole}

@@ -1,8 +1,5 @@
 -- All that makes the hinted cell a dominating one has been tested.
-use mathlib.Core.Path.{_≡_, refl, sym, ap, subst, _∙_}
-use Prim.Native.Nat.{ℕ, _+_, _<_, _≤_, _*_}
 use native.Mathlib.Omega.{arith}
-use Rattle.search.specs.Cells.{placeOf, lossOf}
 use Rattle.search.proofs.Trails.{place-below}
 use Rattle.search.proofs.Turns.{done-row}
 use Rattle.search.specs.Columns.{cellsOf}

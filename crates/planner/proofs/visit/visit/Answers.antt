@@ -1,6 +1,5 @@
 -- A dominated cell's ways count as offered; another cell's are offered.
-use mathlib.Core.Path.{_≡_, refl, sym, ap, subst, _∙_}
-use Prim.Native.Nat.{ℕ, _+_, _<_, _≤_, _*_}
+use mathlib.Core.Path.{refl}
 use native.Mathlib.Omega.{arith}
 use Rattle.site.specs.Whole.{kindOf}
 use Rattle.search.specs.Search.{Laws}

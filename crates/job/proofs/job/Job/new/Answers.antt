@@ -1,19 +1,18 @@
--- All marks are made open, and past the marks none is read as closed.
-use mathlib.Core.Path.{_≡_, refl, ap, subst, _∙_}
-use mathlib.Core.Bool.{Bool, true, false}
-use mathlib.Core.List.{List}
+-- Every mark is made open, and past the marks none is read as closed.
+use mathlib.Core.Path.{_≡_, refl}
+use mathlib.Core.Bool.{Bool, false}
+use mathlib.Core.List.{List, [], _∷_}
+use mathlib.Core.Logic.{_⊎_, ⊎-elim}
 use Prim.Native.Nat.{ℕ, zero, suc}
-use lib.ListN.{getD, replicate}
+use lib.ListN.{getD}
 use Rattle.std.specs.Of.Vec.{vec-items}
+use Rattle.std.specs.Vec.{Every}
 use Rattle.job.proofs.job.Job.new.Needs as need
 
-all-open : (n i : ℕ) → getD (replicate n false) i false ≡ false
-all-open zero i = refl
-all-open (suc n) zero = refl
-all-open (suc n) (suc i) = all-open n i
+all-open : (xs : List Bool) → Every (λ y. (y ≡ false) ⊎ (y ≡ false)) xs → (n : ℕ) → getD xs n false ≡ false
+all-open [] h n = refl
+all-open (x ∷ xs) h zero = ⊎-elim (λ e. e) (λ e. e) (h .0)
+all-open (x ∷ xs) h (suc n) = all-open xs (h .1) n
 
 pub returns : need.returns
-returns g c =
-    let v = c .in-Continue-closed .closed in
-    let items : vec-items v ≡ replicate 16384 false = c .in-Continue-closed .ensures tt .exact (λ y e. e) in
-    (refl, λ n. ap (λ (xs : List Bool). getD xs n false) items ∙ all-open 16384 n)
+returns g c = (refl, all-open (vec-items (c .in-Continue-closed .closed)) (c .in-Continue-closed .ensures tt .made .0))
