@@ -93,9 +93,71 @@ placed-ok out at xs n h = elim (cases-lt (length out) (at + length xs)) [
     same : {n m : ℕ} → _≡_ {A = Result ℕ Refusal} (Ok n) (Ok m) → n ≡ m
     same e = cc
 
+-- a piece that has room is not refused
+pub not-refused : (out : List ℕ) (at : ℕ) (xs : List ℕ) (e : Refusal) → at + length xs ≤ length out → Err e ≡ placed out at xs → ⊥
+not-refused out at xs e fits refused = let z : _≡_ {A = ℕ} 0 1 = apart (refused ∙ placed-fits out at xs fits) in omega arith
+  where
+    apart : {n : ℕ} → _≡_ {A = Result ℕ Refusal} (Err e) (Ok n) → _≡_ {A = ℕ} 0 1
+    apart h = cc
+
 -- what stands up to the end of a piece that was laid
 pub over-front : (out : List ℕ) (at : ℕ) (xs : List ℕ) → at + length xs ≤ length out → take (at + length xs) (over out at xs) ≡ take at out ++ xs
 over-front out at xs h =
     let front = length-take-le at out (omega arith) in
     ap (take (at + length xs)) (over-fits out at xs h ∙ sym (append-assoc (take at out) xs (drop (at + length xs) out)))
     ∙ take-at (take at out ++ xs) (drop (at + length xs) out) (at + length xs) (length-append (take at out) xs ∙ ap (λ n. n + length xs) front)
+
+-- a text that stands at the front of the bytes, up to `at`
+pub record Front (before text : List ℕ) (at : ℕ) (out : List ℕ) : Type 0 where
+  pub next : at ≡ length text
+  pub bytes : out ≡ over before 0 text
+
+module _ (before xs ys : List ℕ) (at : ℕ) (out : List ℕ) (room : length (xs ++ ys) ≤ length before) (front : Front before xs at out) where
+  pub front-fits : at + length ys ≤ length out
+  front-fits =
+      let long = length-append xs ys in
+      let same = ap length (front .bytes) ∙ over-length before 0 xs (omega arith) in
+      let here = front .next in
+      omega arith
+
+  pub front-more : (next : ℕ) (out′ : List ℕ) → next ≡ at + length ys → out′ ≡ over out at ys → Front before (xs ++ ys) next out′
+  front-more next out′ n is =
+      let here = front .next in
+      record {
+        next = n ∙ ap (λ k. k + length ys) here ∙ sym (length-append xs ys);
+        bytes = is ∙ ap (λ o. over o at ys) (front .bytes) ∙ over-more before 0 at xs ys (omega arith) (omega arith);
+      }
+
+-- the first piece of a text
+pub front-first : (before xs ys : List ℕ) (at : ℕ) (out : List ℕ) → length (xs ++ ys) ≤ length before → Ok at ≡ placed before 0 xs → out ≡ over before 0 xs → Front before xs at out
+front-first before xs ys at out room answered is =
+    let long = length-append xs ys in
+    let p = placed-ok before 0 xs at answered in
+    record { next = p .1 ∙ omega arith; bytes = is }
+
+-- with its last piece the whole text is laid
+pub front-last : (before xs ys : List ℕ) (at : ℕ) (out : List ℕ) → length (xs ++ ys) ≤ length before → Front before xs at out
+    → (placed out at ys ≡ placed before 0 (xs ++ ys)) × (over out at ys ≡ over before 0 (xs ++ ys))
+front-last before xs ys at out room front =
+    let fits = front-fits before xs ys at out room front in
+    let more = front-more before xs ys at out room front (at + length ys) (over out at ys) refl refl in
+    let same = more .next in
+    (placed-fits out at ys fits ∙ ap Ok (same ∙ omega arith) ∙ sym (placed-fits before 0 (xs ++ ys) (omega arith)), more .bytes)
+
+-- three pieces, one behind the other
+pub parts-long : (xs ys zs : List ℕ) → length (xs ++ (ys ++ zs)) ≡ length xs + (length ys + length zs)
+parts-long xs ys zs = length-append xs (ys ++ zs) ∙ ap (λ n. length xs + n) (length-append ys zs)
+
+pub three-laid : (before xs ys zs : List ℕ) → length (xs ++ (ys ++ zs)) ≤ length before
+    → (a b : ℕ) (o p : List ℕ) → Ok a ≡ placed before 0 xs → o ≡ over before 0 xs → _≡_ {A = Result ℕ Refusal} (Ok b) (Ok (a + length ys)) → p ≡ over o a ys
+    → (placed p b zs ≡ placed before 0 (xs ++ (ys ++ zs))) × (over p b zs ≡ over before 0 (xs ++ (ys ++ zs)))
+three-laid before xs ys zs room a b o p first first-is second second-is =
+    let whole = append-assoc xs ys zs in
+    let long = parts-long xs ys zs in
+    let two = length-append xs ys in
+    let all = ap length whole in
+    let f = front-first before xs ys a o (omega arith) first first-is in
+    let b-is : b ≡ a + length ys = cc in
+    let g = front-more before xs ys a o (omega arith) f b p b-is second-is in
+    let h = front-last before (xs ++ ys) zs b p (omega arith) g in
+    (h .0 ∙ ap (placed before 0) whole, h .1 ∙ ap (over before 0) whole)

@@ -7,12 +7,11 @@ use Prim.Native.Nat.{ℕ, _+_, _-_, _<_, _≤_}
 use native.Mathlib.Omega.{arith}
 use lib.ListN.{length, getD, drop}
 use Rattle.std.specs.declared.option.Option.the-variants.{Some, None}
-use Rattle.std.specs.declared.result.Result.{Result}
 use Rattle.std.specs.declared.result.Result.the-variants.{Ok, Err}
 use Rattle.std.proofs.shelf.Lists.{drop-more, drop-all, append-assoc, append-nil, length-append}
 use Rattle.refusal.specs.declared.Refusal.{Refusal}
 use Rattle.bytes.specs.Lay.{placed, over}
-use Rattle.bytes.proofs.Laid.{placed-fits, placed-ok, over-none, over-length, over-more}
+use Rattle.bytes.proofs.Laid.{placed-ok, not-refused, over-none, over-length, over-more}
 use Rattle.site.specs.declared.way.Way.{Way}
 use Rattle.site.specs.declared.run.Step.{Step}
 use Rattle.site.specs.declared.run.Request.{Request}
@@ -142,10 +141,7 @@ module _ {C : Type 0} (m : SiteMeaning C) (q : Request) (steps : List Step) wher
         omega arith
 
     pub line-not-refused : (e : Refusal) → Err e ≡ placed out at line → ⊥
-    line-not-refused e refused = let z : _≡_ {A = ℕ} 0 1 = apart (refused ∙ placed-fits out at line line-fits) in omega arith
-      where
-        apart : {n : ℕ} → _≡_ {A = Result ℕ Refusal} (Err e) (Ok n) → _≡_ {A = ℕ} 0 1
-        apart e = cc
+    line-not-refused e refused = not-refused out at line e line-fits refused
 
     pub printed-more : (at′ loss′ : ℕ) (out′ : List ℕ) → loss′ ≡ lossBehind (m .way (stepAt i .way)) (stepAt i .mark) loss → Ok at′ ≡ placed out at line → out′ ≡ over out at line
         → Printed before start loss′ (i + 1) at′ out′

@@ -1,3 +1,4 @@
 pub mod Lines
 pub mod Refused
 pub mod Sheet
+pub mod Page

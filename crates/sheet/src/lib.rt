@@ -4,3 +4,4 @@ pub mod text;
 pub mod refused;
 pub mod lines;
 pub mod steps;
+pub mod page;

@@ -13,9 +13,10 @@ use Rattle.std.specs.declared.result.Result.{Result}
 use Rattle.std.specs.declared.result.Result.the-variants.{Ok, Err}
 use Rattle.std.proofs.shelf.Lists.{append-nil, append-assoc, length-append, take-all}
 use Rattle.refusal.specs.declared.Refusal.{Refusal}
-use Rattle.survey_file.proofs.Answering.{never, ok-same}
+use Rattle.survey_file.proofs.Answering.{ok-same}
 use Rattle.bytes.specs.Lay.{placed, over}
-use Rattle.bytes.proofs.Laid.{placed-fits, over-none, over-length, over-more}
+use Rattle.bytes.proofs.Laid.{placed-fits, over-none, over-length, over-more, Front, front-fits, front-more}
+use Rattle.bytes.proofs.Laid.{not-refused as refused-not}
 use Rattle.survey.specs.declared.entry.WayEntry.{WayEntry}
 use Rattle.survey.specs.Contents.{Contents}
 use Rattle.survey_file.specs.Encode.{headField, repeaterField, placeField, wayField, endField, fileOf}
@@ -90,7 +91,7 @@ module _ {X : Type 0} (f : X → List ℕ) (xs : List X) (before : List ℕ) (st
 
   -- so it is not refused
   pub not-refused : (x : X) (e : Refusal) → Some x ≡ nth xs i → Err e ≡ placed out at (f x) → ⊥
-  not-refused x e h refused = never e (at + length (f x)) (refused ∙ placed-fits out at (f x) (put-fits x h))
+  not-refused x e h refused = refused-not out at (f x) e (put-fits x h) refused
 
   pub put-more : (x : X) (next : ℕ) (out′ : List ℕ) → Some x ≡ nth xs i → Ok next ≡ placed out at (f x) → out′ ≡ over out at (f x) → Put f xs before start (i + 1) next out′
   put-more x next out′ h answered is =
@@ -120,27 +121,6 @@ pub put-as : {X : Type 0} (f : X → List ℕ) (xs : List X) (before : List ℕ)
     → Put f xs before start i at out → Put f xs before start i at′ out′
 put-as f xs before start i at at′ out out′ a o p = record { next = a ∙ p .next; bytes = o ∙ p .bytes }
 
--- a text that stands at the front of the bytes, up to `at`
-pub record Front (before text : List ℕ) (at : ℕ) (out : List ℕ) : Type 0 where
-  pub next : at ≡ length text
-  pub bytes : out ≡ over before 0 text
-
-module _ (before xs ys : List ℕ) (at : ℕ) (out : List ℕ) (room : length (xs ++ ys) ≤ length before) (front : Front before xs at out) where
-  pub front-fits : at + length ys ≤ length out
-  front-fits =
-      let long = length-append xs ys in
-      let same = ap length (front .bytes) ∙ over-length before 0 xs (omega arith) in
-      let here = front .next in
-      omega arith
-
-  pub front-more : (next : ℕ) (out′ : List ℕ) → next ≡ at + length ys → out′ ≡ over out at ys → Front before (xs ++ ys) next out′
-  front-more next out′ n is =
-      let here = front .next in
-      record {
-        next = n ∙ ap (λ k. k + length ys) here ∙ sym (length-append xs ys);
-        bytes = is ∙ ap (λ o. over o at ys) (front .bytes) ∙ over-more before 0 at xs ys (omega arith) (omega arith);
-      }
-
 -- the four parts of a file, laid one behind the other into bytes that have room for it
 module _ (before : List ℕ) (c : Contents) (room : length (fileOf c) ≤ length before) where
   abbrev pub upToPlaces : List ℕ
@@ -167,8 +147,7 @@ module _ (before : List ℕ) (c : Contents) (room : length (fileOf c) ≤ length
   pub head-not-refused : (e : Refusal) → Err e ≡ placed before 0 headField → ⊥
   head-not-refused e refused =
       let l = file-long c in
-      let fits : 0 + 5 ≤ length before = omega arith in
-      never e 5 (refused ∙ placed-fits before 0 headField fits)
+      refused-not before 0 headField e (omega arith) refused
 
   pub places-fit : (a : ℕ) (o : List ℕ) → Front before headField a o → a + length (joined placeField (c .places)) ≤ length o
   places-fit a o f = front-fits before headField (joined placeField (c .places)) a o (room-parts .0) f
