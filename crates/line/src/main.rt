@@ -1,74 +1,98 @@
-// Reads a request and a survey file from standard input, and prints what it makes of them, or why it is refused.
-ghost use Prim.Native.Nat.{_≤_};
-ghost use lib.ListN.{length};
-ghost use Rattle.std.specs.Vec.{made};
-use refusal::Fault;
+// Reads a request and a survey file from standard input, plans the least run for money, and prints its sheet, or why it is
+// refused.
+use charge::money::Money;
+use charge::money::MoneyCharge;
+use heap::Heap;
+use heap::HeapQueue;
+use input::print_fault;
+use input::print_refusal;
+use input::print_text;
+use input::read_input;
+use input::request_in;
+use planner::plan::plan;
 use refusal::Refusal;
-use sheet::refused::fault_line;
+use search::cell::Cell;
+use search::cell::Row;
+use search::cell::RowClone;
+use search::cell::State;
+use sheet::page::sheet;
+use site::run::Request;
+use site::run::Step;
+use slots::slot::Slot;
+use slots::slot::SlotClone;
+use std::alloc::AllocError;
+use std::alloc::Global;
 use std::error::AnyError;
-use std::io;
-use std::io::Read;
-use std::io::Write;
 use survey::draft::Draft;
+use survey::sealed::Sealed;
 use survey_file::reader::FileReader;
+use views::money::MoneyView;
+use views::money::MoneyViewSite;
 
 // The most bytes that are read: six for the request, and then the survey file.
 const MOST: usize = 17206;
 
-// Fills the buffer from standard input, as far as there is input; how many bytes came.
-fn read_input(rt: &LibcRuntime, buffer: &mut [u8]) -> io::Result<usize>
-    ensures { λ r. ⌜ made r (λ n. n ≤ length (now (buffer .entry))) ⌝ }
-{
-    let mut stdin = rt.stdin();
-    let mut at = 0;
-    for _ in 0..MOST {
-        if at >= buffer.len() {
-            return Ok(at);
-        }
-        let end = buffer.len();
-        let count = stdin.read(&mut buffer[at..end])?;
-        if count == 0 {
-            return Ok(at);
-        }
-        at += count;
-    }
-    Ok(at)
+// How many rows of each sort there are.
+const ROWS: usize = 3904;
+
+// How long a sheet may be.
+const PAGE: usize = 65536;
+
+// Working memory, empty.
+fn cell_rows(heap: Global) -> Result<Vec<Row<Money>>, AllocError> {
+    let charge = Money { cents: 0 };
+    let cell = Cell { charge, state: State::Unseen, from: 0, way: 0, mark: false, steps: 0 };
+    vec![in heap; Row { cell, hint: 0, head: 0, next: 0 }; ROWS]
 }
 
-// A refusal that was met in the file.
-fn print_fault(rt: &LibcRuntime, fault: Fault) -> Result<(), AnyError> {
-    let mut text = [0u8; 64];
-    if let Ok(length) = fault_line(fault, &mut text) {
-        if length <= 64 {
-            rt.stdout().write_all(&text[0..length])?;
-        }
-    }
-    Ok(())
+fn queue_rows(heap: Global) -> Result<Vec<Slot<Money>>, AllocError> {
+    vec![in heap; Slot { charge: Money { cents: 0 }, cell: 0, position: 0 }; ROWS]
 }
 
-// A request is a start, an end and a bound, of two bytes each.
-fn answer(rt: &LibcRuntime, request: &[u8; 6], file: &[u8]) -> Result<(), AnyError> {
-    let start = request[0] as usize * 256 + request[1] as usize;
-    let end = request[2] as usize * 256 + request[3] as usize;
-    let bound = request[4] as usize * 256 + request[5] as usize;
+fn run_rows(heap: Global) -> Result<Vec<Step>, AllocError> {
+    vec![in heap; Step { way: 0, mark: false }; ROWS]
+}
+
+// Prints the sheet of the first steps of the run rows.
+fn print_sheet(rt: &LibcRuntime, survey: &Sealed, request: Request, steps: &[Step]) -> Result<(), AnyError> {
+    let mut page = vec![in rt.alloc(); 0u8; PAGE]?;
+    match sheet(survey, request, steps, &mut page) {
+        Ok(length) => print_text(rt, &page, length),
+        Err(refusal) => print_refusal(rt, refusal),
+    }
+}
+
+// Plans the least run for money over a survey, and prints it.
+fn plan_survey(rt: &LibcRuntime, survey: &Sealed, request: Request) -> Result<(), AnyError> {
+    let mut cells = cell_rows(rt.alloc())?;
+    let mut waiting = queue_rows(rt.alloc())?;
+    let mut run = run_rows(rt.alloc())?;
+    let mut queue = Heap::over(&mut waiting);
+    let view = MoneyView::over(survey);
+    match plan(&view, request, &mut cells, &mut queue, &mut run) {
+        Ok(planned) => {
+            let count = planned.steps;
+            print_sheet(rt, survey, request, &run[0..count])
+        }
+        Err(refusal) => print_refusal(rt, refusal),
+    }
+}
+
+// What a request and a survey file come to.
+fn answer(rt: &LibcRuntime, request: Request, file: &[u8]) -> Result<(), AnyError> {
     let mut reader = FileReader::new(rt.alloc())?;
     let mut draft = Draft::new(rt.alloc())?;
-    if let Err(fault) = reader.read(file, &mut draft) {
-        return print_fault(rt, fault);
+    match reader.read(file, &mut draft) {
+        Ok(()) => plan_survey(rt, &draft.seal(), request),
+        Err(fault) => print_fault(rt, fault),
     }
-    let survey = draft.seal();
-    let places = survey.places();
-    let ways = survey.ways();
-    println!(rt, "READ {places} places and {ways} ways for a run from {start} to {end} within {bound}")?;
-    Ok(())
 }
 
 fn main(rt: LibcRuntime) -> Result<(), AnyError> {
     let mut input = vec![in rt.alloc(); 0u8; MOST]?;
     let count = read_input(&rt, &mut input)?;
-    if count < 6 || count > input.len() {
-        return print_fault(&rt, Fault { refusal: Refusal::CutShort, place: 0 });
+    match request_in(&input[0..count]) {
+        Ok(request) => answer(&rt, request, &input[6..count]),
+        Err(fault) => print_fault(&rt, fault),
     }
-    let request = [input[0], input[1], input[2], input[3], input[4], input[5]];
-    answer(&rt, &request, &input[6..count])
 }
