@@ -75,26 +75,29 @@ allBelow (suc n) t = both (t n) (allBelow n t)
 picked : {A : Type 0} (s t : A → Bool) (xs : List A) → T (someOf s xs) → T (allOf t xs) → (x : A) × T (s x) × T (t x)
 picked s t [] some all = absurd some
 picked s t (x ∷ xs) some all =
-    elim (s x) as (λ b. s x ≡ b → T (cond b true (someOf s xs)) → (y : _) × T (s y) × T (t y))
-      [ true ↦ (λ e _. (x, passes (s x) e, left-of (t x) (allOf t xs) all))
-      | false ↦ (λ e rest. picked s t xs rest (right-of (t x) (allOf t xs) all)) ]
-      refl some
+    elim (s x) as (λ b. s x ≡ b → T (cond b true (someOf s xs)) → (y : _) × T (s y) × T (t y)) [
+      | true ↦ (λ e _. (x, passes (s x) e, left-of (t x) (allOf t xs) all))
+      | false ↦ (λ e rest. picked s t xs rest (right-of (t x) (allOf t xs) all))
+    ]
+    refl some
 
 some-more : {A : Type 0} (s t : A → Bool) → ((x : A) → T (s x) → T (t x)) → (xs : List A) → T (someOf s xs) → T (someOf t xs)
 some-more s t imp [] some = some
 some-more s t imp (x ∷ xs) some =
-    elim (s x) as (λ b. s x ≡ b → T (cond b true (someOf s xs)) → T (cond (t x) true (someOf t xs)))
-      [ true ↦ (λ e _. here (t x) (someOf t xs) (imp x (passes (s x) e)))
-      | false ↦ (λ e rest. behind (t x) (someOf t xs) (some-more s t imp xs rest)) ]
-      refl some
+    elim (s x) as (λ b. s x ≡ b → T (cond b true (someOf s xs)) → T (cond (t x) true (someOf t xs))) [
+      | true ↦ (λ e _. here (t x) (someOf t xs) (imp x (passes (s x) e)))
+      | false ↦ (λ e rest. behind (t x) (someOf t xs) (some-more s t imp xs rest))
+    ]
+    refl some
 
 below-all : (n : ℕ) (t : ℕ → Bool) → T (allBelow n t) → (i : ℕ) → i < n → T (t i)
 below-all zero t all i h = absurd (omega arith)
 below-all (suc n) t all i h =
-    elim (eqb i n) as (λ b. eqb i n ≡ b → T (t i))
-      [ true ↦ (λ e. subst (λ j. T (t j)) (sym (eqb-true i n e)) (left-of (t n) (allBelow n t) all))
-      | false ↦ (λ e. below-all n t (right-of (t n) (allBelow n t) all) i (let ne = eqb-false i n e in omega arith)) ]
-      refl
+    elim (eqb i n) as (λ b. eqb i n ≡ b → T (t i)) [
+      | true ↦ (λ e. subst (λ j. T (t j)) (sym (eqb-true i n e)) (left-of (t n) (allBelow n t) all))
+      | false ↦ (λ e. below-all n t (right-of (t n) (allBelow n t) all) i (let ne = eqb-false i n e in omega arith))
+    ]
+    refl
 
 pub record Cell (C : Type 0) : Type 0 where
   pub place : ℕ
@@ -132,7 +135,7 @@ module _ {C : Type 0} (k : Kind C) (m : SiteMeaning C) (q : Request) where
   stepKept cells c mark None = true
   stepKept cells c mark (Some w) =
       asked (eqb (w .from) (c .place)) (asked (leb (c .loss + w .loss) (q .bound)) (asked (mayMark mark (w .to))
-        (served cells (w .to) (lossAfter mark (c .loss + w .loss)) (afterWay k m (c .low) mark (Some w)))))
+      (served cells (w .to) (lossAfter mark (c .loss + w .loss)) (afterWay k m (c .low) mark (Some w)))))
 
   abbrev wayKept : List (Cell C) → Cell C → ℕ → Bool
   wayKept cells c n = both (stepKept cells c false (m .way n)) (stepKept cells c true (m .way n))
@@ -200,19 +203,23 @@ module _ {C : Type 0} (k : Kind C) (m : SiteMeaning C) (q : Request) where
   pub leads-on : (run : List Step) (p l : ℕ) → T (leadsOn p l run) → Lawful m q p l run
   leads-on [] p l t = eqb→eq p (q .end) t
   leads-on (s ∷ rest) p l t =
-      elim (m .way (s .way)) as (λ o. m .way (s .way) ≡ o → T (both (goesOver p l (s .mark) o) (leadsOn (placeBehind o) (lossBehind o (s .mark) l) rest)) → Lawful m q p l (s ∷ rest))
-        [ None ↦ (λ e u. absurd u)
+      elim (m .way (s .way)) as (λ o. m .way (s .way) ≡ o → T (both (goesOver p l (s .mark) o) (leadsOn (placeBehind o) (lossBehind o (s .mark) l) rest)) → Lawful m q p l (s ∷ rest)) [
+        | None ↦ (λ e u. absurd u)
         | Some w ↦ (λ e u.
             let goes = left-of (goesOver p l (s .mark) (Some w)) (leadsOn (w .to) (lossAfter (s .mark) (l + w .loss)) rest) u in
             let on = right-of (goesOver p l (s .mark) (Some w)) (leadsOn (w .to) (lossAfter (s .mark) (l + w .loss)) rest) u in
-            let more = right-of (eqb (w .from) p) (both (leb (l + w .loss) (q .bound)) (mayMark (s .mark) (w .to))) goes in
-            (w, record {
-              opens = e;
-              leaves = eqb→eq (w .from) p (left-of (eqb (w .from) p) (both (leb (l + w .loss) (q .bound)) (mayMark (s .mark) (w .to))) goes);
-              arrives = leb→le (l + w .loss) (q .bound) (left-of (leb (l + w .loss) (q .bound)) (mayMark (s .mark) (w .to)) more);
-              marks = may-mark (s .mark) (w .to) (right-of (leb (l + w .loss) (q .bound)) (mayMark (s .mark) (w .to)) more);
-            }, leads-on rest (w .to) (lossAfter (s .mark) (l + w .loss)) on)) ]
-        refl t
+            let more = right-of (eqb (w .from) p) (both (leb (l + w .loss) (q .bound)) (mayMark (s .mark) (w .to))) goes in (
+              w,
+              record {
+                opens = e;
+                leaves = eqb→eq (w .from) p (left-of (eqb (w .from) p) (both (leb (l + w .loss) (q .bound)) (mayMark (s .mark) (w .to))) goes);
+                arrives = leb→le (l + w .loss) (q .bound) (left-of (leb (l + w .loss) (q .bound)) (mayMark (s .mark) (w .to)) more);
+                marks = may-mark (s .mark) (w .to) (right-of (leb (l + w .loss) (q .bound)) (mayMark (s .mark) (w .to)) more);
+              },
+              leads-on rest (w .to) (lossAfter (s .mark) (l + w .loss)) on,
+            ))
+      ]
+      refl t
 
   module _ (law : Orderly k) (past : (n : ℕ) → m .ways ≤ n → m .way n ≡ None) (cells : List (Cell C)) (ok : T (closed cells)) where
     repeater-monotone : (a b : C) (o : Option C) → k .within a b ≡ true → k .within (withRepeater k a o) (withRepeater k b o) ≡ true
@@ -228,21 +235,22 @@ module _ {C : Type 0} (k : Kind C) (m : SiteMeaning C) (q : Request) where
     served-more p l a b h =
         some-more (serves p l a) (serves p l b)
         (λ x t.
-          let at = left-of (eqb (x .place) p) (both (eqb (x .loss) l) (k .within (x .low) a)) t in
-          let more = right-of (eqb (x .place) p) (both (eqb (x .loss) l) (k .within (x .low) a)) t in
-          let lost = left-of (eqb (x .loss) l) (k .within (x .low) a) more in
-          let low = is-true (k .within (x .low) a) (right-of (eqb (x .loss) l) (k .within (x .low) a) more) in
-          together (eqb (x .place) p) (both (eqb (x .loss) l) (k .within (x .low) b)) at
-          (together (eqb (x .loss) l) (k .within (x .low) b) lost
-            (passes (k .within (x .low) b) (law .transitive (x .low) a b low h))))
+        let at = left-of (eqb (x .place) p) (both (eqb (x .loss) l) (k .within (x .low) a)) t in
+        let more = right-of (eqb (x .place) p) (both (eqb (x .loss) l) (k .within (x .low) a)) t in
+        let lost = left-of (eqb (x .loss) l) (k .within (x .low) a) more in
+        let low = is-true (k .within (x .low) a) (right-of (eqb (x .loss) l) (k .within (x .low) a) more) in
+        together (eqb (x .place) p) (both (eqb (x .loss) l) (k .within (x .low) b)) at
+        (together (eqb (x .loss) l) (k .within (x .low) b) lost
+        (passes (k .within (x .low) b) (law .transitive (x .low) a b low h))))
         cells
 
     inside : (n : ℕ) (w : Way C) → m .way n ≡ Some w → n < m .ways
     inside n w e =
-        elim (ltb n (m .ways)) as (λ b. ltb n (m .ways) ≡ b → n < m .ways)
-          [ true ↦ (λ t. ltb-true n (m .ways) t)
-          | false ↦ (λ t. let none = past n (ltb-false n (m .ways) t) in let z : _≡_ {A = ℕ} 0 1 = cc in absurd (omega arith)) ]
-          refl
+        elim (ltb n (m .ways)) as (λ b. ltb n (m .ways) ≡ b → n < m .ways) [
+          | true ↦ (λ t. ltb-true n (m .ways) t)
+          | false ↦ (λ t. let none = past n (ltb-false n (m .ways) t) in let z : _≡_ {A = ℕ} 0 1 = cc in absurd (omega arith))
+        ]
+        refl
 
     -- a cell that serves: where it stands, and that it has passed what all cells pass
     cell-of : (t : Cell C → Bool) (p l : ℕ) (sum : C) → T (allOf t cells) → T (served cells p l sum)
@@ -251,11 +259,13 @@ module _ {C : Type 0} (k : Kind C) (m : SiteMeaning C) (q : Request) where
         let f = picked (serves p l sum) t cells some all in
         let x = f .0 in
         let at = left-of (eqb (x .place) p) (both (eqb (x .loss) l) (k .within (x .low) sum)) (f .1) in
-        let more = right-of (eqb (x .place) p) (both (eqb (x .loss) l) (k .within (x .low) sum)) (f .1) in
-        (x, eqb→eq (x .place) p at,
+        let more = right-of (eqb (x .place) p) (both (eqb (x .loss) l) (k .within (x .low) sum)) (f .1) in (
+          x,
+          eqb→eq (x .place) p at,
           eqb→eq (x .loss) l (left-of (eqb (x .loss) l) (k .within (x .low) sum) more),
           is-true (k .within (x .low) sum) (right-of (eqb (x .loss) l) (k .within (x .low) sum) more),
-          f .2)
+          f .2,
+        )
 
     all-kept : T (allOf (λ c. allBelow (m .ways) (wayKept cells c)) cells)
     all-kept = right-of (served cells (q .start) 0 (k .free)) (allOf (λ c. allBelow (m .ways) (wayKept cells c)) cells) ok
@@ -266,7 +276,7 @@ module _ {C : Type 0} (k : Kind C) (m : SiteMeaning C) (q : Request) where
     led x mark w from bound may t =
         answered (mayMark mark (w .to)) _ may
         (answered (leb (x .loss + w .loss) (q .bound)) _ (le-leb (x .loss + w .loss) (q .bound) bound)
-          (answered (eqb (w .from) (x .place)) _ (eq-eqb (w .from) (x .place) from) t))
+        (answered (eqb (w .from) (x .place)) _ (eq-eqb (w .from) (x .place) from) t))
 
     -- a lawful step leads from what the table serves to what it serves
     onward : (p l : ℕ) (sum : C) (s : Step) (w : Way C) → T (served cells p l sum) → Goes m q p l s w
@@ -298,15 +308,15 @@ module _ {C : Type 0} (k : Kind C) (m : SiteMeaning C) (q : Request) where
     none-lower c ends run lawful =
         front (λ sum. k .within c sum ≡ true)
         (λ l sum t.
-          let f = cell-of (λ x. asked (eqb (x .place) (q .end)) (k .within c (x .low))) (q .end) l sum ends t in
-          let low = answered (eqb (f .0 .place) (q .end)) (k .within c (f .0 .low)) (eq-eqb (f .0 .place) (q .end) (f .1)) (f .4) in
-          law .transitive c (f .0 .low) sum (is-true (k .within c (f .0 .low)) low) (f .3))
+        let f = cell-of (λ x. asked (eqb (x .place) (q .end)) (k .within c (x .low))) (q .end) l sum ends t in
+        let low = answered (eqb (f .0 .place) (q .end)) (k .within c (f .0 .low)) (eq-eqb (f .0 .place) (q .end) (f .1)) (f .4) in
+        law .transitive c (f .0 .low) sum (is-true (k .within c (f .0 .low)) low) (f .3))
         run (q .start) 0 (k .free) started lawful
 
     pub none-lawful : T (endless cells) → (run : List Step) → Run m q run → ⊥
     none-lawful ends run lawful =
         front (λ sum. ⊥)
         (λ l sum t.
-          let f = cell-of (λ x. not (eqb (x .place) (q .end))) (q .end) l sum ends t in
-          denied (eqb (f .0 .place) (q .end)) (eq-eqb (f .0 .place) (q .end) (f .1)) (f .4))
+        let f = cell-of (λ x. not (eqb (x .place) (q .end))) (q .end) l sum ends t in
+        denied (eqb (f .0 .place) (q .end)) (eq-eqb (f .0 .place) (q .end) (f .1)) (f .4))
         run (q .start) 0 (k .free) started lawful
