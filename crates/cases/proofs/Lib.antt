@@ -1,0 +1,3 @@
+mod Potential
+mod Orders
+mod Tables
