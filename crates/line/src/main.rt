@@ -9,8 +9,7 @@ use input::print_refusal;
 use input::print_text;
 use input::read_input;
 use input::request_in;
-use planner::plan::plan;
-use refusal::Refusal;
+use relays::plan_for_money;
 use search::cell::Cell;
 use search::cell::Row;
 use search::cell::RowClone;
@@ -26,8 +25,6 @@ use std::error::AnyError;
 use survey::draft::Draft;
 use survey::sealed::Sealed;
 use survey_file::reader::FileReader;
-use views::money::MoneyView;
-use views::money::MoneyViewSite;
 
 // The most bytes that are read: six for the request, and then the survey file.
 const MOST: usize = 17206;
@@ -68,8 +65,7 @@ fn plan_survey(rt: &LibcRuntime, survey: &Sealed, request: Request) -> Result<()
     let mut waiting = queue_rows(rt.alloc())?;
     let mut run = run_rows(rt.alloc())?;
     let mut queue = Heap::over(&mut waiting);
-    let view = MoneyView::over(survey);
-    match plan(&view, request, &mut cells, &mut queue, &mut run) {
+    match plan_for_money(survey, request, &mut cells, &mut queue, &mut run) {
         Ok(planned) => {
             let count = planned.steps;
             print_sheet(rt, survey, request, &run[0..count])

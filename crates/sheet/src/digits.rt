@@ -3,6 +3,22 @@ ghost use mathlib.Core.Path.{_≡_};
 ghost use Prim.Native.Nat.{_<_};
 ghost use lib.ListN.{length, drop};
 ghost use Rattle.std.specs.Written.{decimal};
+ghost use Rattle.bytes.specs.Lay.{placed, over};
+ghost use Rattle.sheet.specs.Decimals.{PlainDecimal};
+use bytes::put;
+use refusal::Refusal;
+
+// A number in decimal, into the front of the bytes, and how many digits it has. There is no zero in front but for the number
+// zero, which is a single 0, and the digits read as the number again.
+pub fn put_decimal(n: u64, out: &mut [u8]) -> Result<usize, Refusal>
+    ensures answer { λ r. ⌜ r ≡ placed (now (out .entry)) 0 (decimal n) ⌝ }
+    ensures after { λ _. ⌜ now (out .exit) ≡ over (now (out .entry)) 0 (decimal n) ⌝ }
+    ensures plain { λ _. ⌜ PlainDecimal n ⌝ }
+{
+    let mut digits = [0u8; 20];
+    let first = spell(&mut digits, n);
+    put(out, 0, &digits[first..20])
+}
 
 // The digits of n stand at the end of twenty bytes, from the place that is answered.
 pub(crate) fn spell(digits: &mut [u8], n: u64) -> usize

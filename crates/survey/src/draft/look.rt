@@ -2,10 +2,18 @@ ghost use mathlib.Core.Path.{_≡_};
 ghost use Prim.Native.Nat.{_≤_};
 ghost use lib.ListN.{length};
 ghost use Rattle.std.specs.Finite.{nth};
+ghost use Rattle.std.specs.Of.Vec.{vec-items};
 ghost use Rattle.survey.specs.Contents.{contents};
 use crate::draft::Draft;
 use crate::entry::Place;
 use crate::entry::WayEntry;
+
+// An item by its number, or none past the last.
+fn item<T: Copy>(items: &Vec<T>, number: usize) -> Option<T>
+    ensures { λ r. ⌜ r ≡ nth (vec-items (now (items .entry))) number ⌝ }
+{
+    if number < items.len() { Some(items[number]) } else { None }
+}
 
 impl Draft {
     // How many places are entered.
@@ -28,21 +36,13 @@ impl Draft {
     pub fn place(&self, number: usize) -> Option<Place>
         ensures { λ r. ⌜ r ≡ nth (contents (now (self .entry)) .places) number ⌝ }
     {
-        if number < self.places.len() {
-            Some(self.places[number])
-        } else {
-            None
-        }
+        item(&self.places, number)
     }
 
     // A way by its number.
     pub fn way(&self, number: usize) -> Option<WayEntry>
         ensures { λ r. ⌜ r ≡ nth (contents (now (self .entry)) .ways) number ⌝ }
     {
-        if number < self.table.ways.len() {
-            Some(self.table.ways[number])
-        } else {
-            None
-        }
+        item(&self.table.ways, number)
     }
 }

@@ -5,20 +5,15 @@ use Prim.Native.Nat.{_^_, _<_}
 use native.Mathlib.Omega.{arith}
 use borrow.Author.Needs.{needs}
 use lib.Chars.{codes}
-use Rattle.bytes.specs.Lay.{placed, over}
 use Rattle.refusal.specs.Numbers.{number}
 use Rattle.sheet.specs.Lines.{textOf}
 use Rattle.sheet.specs.Refused.{refusalText, figure}
 use Rattle.sheet.proofs.Growing.{says-more, says-figure}
-use Rattle.sheet.proofs.refused.refusal_line.Needs as need
+use Rattle.sheet.proofs.refused.refusal_text.Needs as need
 
 pub returns : need.returns
 returns c =
     let word = says-more (textOf (c .new-line .result)) (textOf (c .push .last .self)) [] (codes "REFUSED ") (c .new-line .ensures) (c .push .ensures) (omega arith) in
     let small : c .code .result < 2 ^ 64 = search needs in
     let whole = says-figure _ (textOf (c .push-number-then .last .self)) (codes "REFUSED ") (c .code .result) 10 small word (c .push-number-then .ensures) (omega arith) in
-    let text = whole ∙ ap (λ n. codes "REFUSED " ++ figure n 10) (c .code .ensures) in
-    record {
-      answer = c .put-into .ensures .answer ∙ ap (placed (c .args .out .now) 0) text;
-      after = c .put-into .ensures .after ∙ ap (over (c .args .out .now) 0) text;
-    }
+    whole ∙ ap (λ n. codes "REFUSED " ++ figure n 10) (c .code .ensures)

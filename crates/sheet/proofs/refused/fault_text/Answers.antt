@@ -7,12 +7,11 @@ use borrow.Author.Needs.{needs}
 use lib.Chars.{codes}
 use lib.ListN.{length}
 use Rattle.std.proofs.shelf.Lists.{append-assoc, length-append}
-use Rattle.bytes.specs.Lay.{placed, over}
 use Rattle.refusal.specs.Numbers.{number}
 use Rattle.sheet.specs.Lines.{textOf}
 use Rattle.sheet.specs.Refused.{faultText, figure}
 use Rattle.sheet.proofs.Growing.{says-more, says-figure, figure-long}
-use Rattle.sheet.proofs.refused.fault_line.Needs as need
+use Rattle.sheet.proofs.refused.fault_text.Needs as need
 
 pub returns : need.returns
 returns c =
@@ -23,9 +22,5 @@ returns c =
     let long = length-append (codes "REFUSED ") (figure (c .code .result) 32) in
     let short = figure-long (c .code .result) 32 small in
     let whole = says-figure _ (textOf (c .push-number-then-2 .last .self)) text-so-far (c .args .fault .place) 10 (search needs) first (c .push-number-then-2 .ensures) (omega arith) in
-    let text = whole ∙ append-assoc (codes "REFUSED ") (figure (c .code .result) 32) (figure (c .args .fault .place) 10)
-    ∙ ap (λ n. codes "REFUSED " ++ (figure n 32 ++ figure (c .args .fault .place) 10)) (c .code .ensures) in
-    record {
-      answer = c .put-into .ensures .answer ∙ ap (placed (c .args .out .now) 0) text;
-      after = c .put-into .ensures .after ∙ ap (over (c .args .out .now) 0) text;
-    }
+    whole ∙ append-assoc (codes "REFUSED ") (figure (c .code .result) 32) (figure (c .args .fault .place) 10)
+    ∙ ap (λ n. codes "REFUSED " ++ (figure n 32 ++ figure (c .args .fault .place) 10)) (c .code .ensures)
