@@ -1,11 +1,12 @@
 // Times the planner of this repository with its heap against a planner with std::collections::BinaryHeap: the same places
-// and losses, from corner to corner of a grid of 64 by 64. Both totals have to be 13,100 cents.
+// and losses, from corner to corner of a grid of 64 by 64. All totals have to be 13,100 cents. A plan from a corner to
+// itself, for nothing, shows what the clearing of the tables takes.
 use std::cmp::Reverse;
 use std::collections::BinaryHeap;
 use std::time::{Duration, Instant};
 
 unsafe extern "C" {
-    fn plan_on_square(side: usize, way_cents: u64, loss: u16, repeater_cents: u64, bound: usize, plans: u32) -> u64;
+    fn plan_on_square(side: usize, way_cents: u64, loss: u16, repeater_cents: u64, bound: usize, end: usize, plans: u32) -> u64;
 }
 
 const SIDE: usize = 64;
@@ -114,25 +115,36 @@ impl Planner {
     }
 }
 
-fn timed(total: impl FnOnce() -> Option<u64>) -> Duration {
-    let start = Instant::now();
-    let total = total();
-    let time = start.elapsed();
-    assert_eq!(total, Some(TOTAL));
-    time
+// Who plans: this repository, or the planner above, over all cells or with dominated cells left out.
+#[derive(Clone, Copy)]
+enum Who {
+    Ours,
+    Plain,
+    Pruned,
 }
 
-fn ours(plans: u32) -> Option<u64> {
-    Some(unsafe { plan_on_square(SIDE, WAY_CENTS, LOSS as u16, REPEATER_CENTS, BOUND, plans) })
-}
+const ALL: [Who; 3] = [Who::Ours, Who::Plain, Who::Pruned];
 
-fn theirs(plans: u32, prune: bool) -> Option<u64> {
+fn total(who: Who, end: usize, plans: u32) -> Option<u64> {
+    let prune = match who {
+        Who::Ours => return Some(unsafe { plan_on_square(SIDE, WAY_CENTS, LOSS as u16, REPEATER_CENTS, BOUND, end, plans) }),
+        Who::Plain => false,
+        Who::Pruned => true,
+    };
     let mut planner = Planner::new();
     let mut total = None;
     for _ in 0..plans {
-        total = planner.plan(0, PLACES - 1, prune);
+        total = planner.plan(0, end, prune);
     }
     total
+}
+
+fn timed(who: Who, end: usize, plans: u32) -> Duration {
+    let start = Instant::now();
+    let total = total(who, end, plans);
+    let time = start.elapsed();
+    assert_eq!(total, Some(if end == 0 { 0 } else { TOTAL }));
+    time
 }
 
 fn median(mut times: Vec<Duration>) -> f64 {
@@ -140,24 +152,25 @@ fn median(mut times: Vec<Duration>) -> f64 {
     (times[(times.len() - 1) / 2] + times[times.len() / 2]).as_secs_f64() * 500.0
 }
 
-// One plan on rows that a plan before has used: what the second of two plans adds to the time of one.
-fn added(two: Duration, one: Duration) -> Duration {
-    two.saturating_sub(one)
+// One plan on tables that a plan before has used: what the second of two plans adds to the time of one.
+fn added(who: Who, end: usize) -> Duration {
+    let one = timed(who, end, 1);
+    timed(who, end, 2).saturating_sub(one)
+}
+
+fn report(what: &str, time: impl Fn(Who) -> Duration) {
+    let mut times = [vec![], vec![], vec![]];
+    for _ in 0..TURNS {
+        for (who, times) in ALL.into_iter().zip(&mut times) {
+            times.push(time(who));
+        }
+    }
+    let [ours, plain, pruned] = times.map(median);
+    println!("{what}: ours {ours:.1} ms; BinaryHeap {plain:.1} ms, ratio {:.2}; BinaryHeap with pruning {pruned:.1} ms, ratio {:.2}", ours / plain, ours / pruned);
 }
 
 fn main() {
-    let mut first = [vec![], vec![], vec![]];
-    let mut again = [vec![], vec![], vec![]];
-    for _ in 0..TURNS {
-        let one = [timed(|| ours(1)), timed(|| theirs(1, false)), timed(|| theirs(1, true))];
-        let two = [timed(|| ours(2)), timed(|| theirs(2, false)), timed(|| theirs(2, true))];
-        for i in 0..3 {
-            first[i].push(one[i]);
-            again[i].push(added(two[i], one[i]));
-        }
-    }
-    for (what, times) in [("memory taken and cleared within the time", first), ("memory taken before, cleared within the time", again)] {
-        let [ours, plain, pruned] = times.map(median);
-        println!("{what}: ours {ours:.1} ms; BinaryHeap {plain:.1} ms, ratio {:.2}; BinaryHeap with pruning {pruned:.1} ms, ratio {:.2}", ours / plain, ours / pruned);
-    }
+    report("corner to corner, tables cleared within the time", |who| added(who, PLACES - 1));
+    report("corner to corner, memory taken within the time too", |who| timed(who, PLACES - 1, 1));
+    report("from a corner to itself, which is the clearing alone", |who| added(who, 0));
 }

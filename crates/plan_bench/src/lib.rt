@@ -1,4 +1,4 @@
-// Planning with the heap behind a C interface, to be timed against another planner: from corner to corner of a square grid.
+// Planning with the heap behind a C interface, to be timed against another planner: from the first place of a square grid.
 use charge::money::Money;
 use charge::money::MoneyCharge;
 use grid::grid::FloorGrid;
@@ -74,8 +74,8 @@ fn plan_over(
     total
 }
 
-// Plans so many times over from the first place of a square grid to the last, on rows that are taken for it, and gives the
-// cents of the total; 0 where a plan is refused or memory is wanting.
+// Plans so many times over from the first place of a square grid to the place `end`, on rows that are taken for it, and
+// gives the cents of the total; the largest number where the plan is refused or memory is wanting.
 #[unsafe(no_mangle)]
 pub extern "C" fn plan_on_square(
     memory: Global,
@@ -84,6 +84,7 @@ pub extern "C" fn plan_on_square(
     loss: u16,
     repeater_cents: u64,
     bound: usize,
+    end: usize,
     plans: u32,
 ) -> u64 {
     let way = Money { cents: way_cents };
@@ -91,22 +92,28 @@ pub extern "C" fn plan_on_square(
         cents: repeater_cents,
     });
     let Ok(site) = FloorGrid::new(side, side, way, loss, repeater) else {
-        return 0;
+        return u64::MAX;
     };
     let places = site.places();
-    if places == 0 || places > 4096 || bound > 1000 {
-        return 0;
+    if places > 4096 || bound > 1000 {
+        return u64::MAX;
     }
-    let end = places - 1;
     let many = places * (bound + 1);
     let Ok(mut cells) = cell_rows(memory, many) else {
-        return 0;
+        return u64::MAX;
     };
     let Ok(mut slots) = queue_rows(memory, many) else {
-        return 0;
+        return u64::MAX;
     };
-    let Ok(mut run) = Vec::from_elem(memory, Step { way: 0, mark: false }, many) else {
-        return 0;
+    let Ok(mut run) = Vec::from_elem(
+        memory,
+        Step {
+            way: 0,
+            mark: false,
+        },
+        many,
+    ) else {
+        return u64::MAX;
     };
     let request = Request {
         start: 0,
@@ -122,6 +129,6 @@ pub extern "C" fn plan_on_square(
         run.as_mut_slice(),
     ) {
         Some(total) => total,
-        None => 0,
+        None => u64::MAX,
     }
 }
