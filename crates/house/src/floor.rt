@@ -17,7 +17,13 @@ use std::io;
 
 // A square grid with so many places on each side.
 fn square(side: usize) -> Result<FloorGrid<Money>, AnyError> {
-    match FloorGrid::new(side, side, Money { cents: 100 }, 1, Some(Money { cents: 500 })) {
+    match FloorGrid::new(
+        side,
+        side,
+        Money { cents: 100 },
+        1,
+        Some(Money { cents: 500 }),
+    ) {
         Ok(grid) => Ok(grid),
         Err(_) => Err("a side of the grid was refused".into()),
     }

@@ -51,7 +51,13 @@ pub fn closing(rt: &LibcRuntime, tally: &mut Tally) -> Result<(), AnyError> {
     done(job.close(2))?;
     within_35(rt, tally, "way 2 closed, bound 35", &job, Gave::Total(2600))?;
     done(job.reopen(2))?;
-    within_35(rt, tally, "way 2 reopened, bound 35", &job, Gave::Total(1500))
+    within_35(
+        rt,
+        tally,
+        "way 2 reopened, bound 35",
+        &job,
+        Gave::Total(1500),
+    )
 }
 
 // The way 2 closed on a job and on a job over it: to reopen it above leaves it shut below.
@@ -60,9 +66,27 @@ pub fn closing_twice(rt: &LibcRuntime, tally: &mut Tally) -> Result<(), AnyError
     let mut below = Job::new(rt.alloc(), MoneyView::over(&survey))?;
     done(below.close(2))?;
     let mut above = Job::new(rt.alloc(), below)?;
-    within_35(rt, tally, "way 2 closed below, bound 35", &above, Gave::Total(2600))?;
+    within_35(
+        rt,
+        tally,
+        "way 2 closed below, bound 35",
+        &above,
+        Gave::Total(2600),
+    )?;
     done(above.close(2))?;
-    within_35(rt, tally, "way 2 closed below and above, bound 35", &above, Gave::Total(2600))?;
+    within_35(
+        rt,
+        tally,
+        "way 2 closed below and above, bound 35",
+        &above,
+        Gave::Total(2600),
+    )?;
     done(above.reopen(2))?;
-    within_35(rt, tally, "way 2 reopened above, bound 35", &above, Gave::Total(2600))
+    within_35(
+        rt,
+        tally,
+        "way 2 reopened above, bound 35",
+        &above,
+        Gave::Total(2600),
+    )
 }

@@ -60,18 +60,8 @@ pub fn used_rows(rt: &LibcRuntime, tally: &mut Tally) -> Result<(), AnyError> {
         request: across(33),
         expected: Gave::Total(1500),
     };
-    let heap = of_money(again_with_heap(
-        &site,
-        across(44),
-        case.request,
-        &mut memory,
-    ));
-    let row = of_money(again_with_ordered_row(
-        &site,
-        across(44),
-        case.request,
-        &mut memory,
-    ));
+    let heap = of_money(again_with_heap(&site, across(44), case.request, &mut memory));
+    let row = of_money(again_with_ordered_row(&site, across(44), case.request, &mut memory));
     tell(rt, tally, &case, heap, row)?;
     Ok(())
 }
