@@ -18,6 +18,19 @@ use survey::sealed::Sealed;
 use views::money::MoneyView;
 use views::money::MoneyViewSite;
 
+// A plan over a sealed survey as a site for money.
+fn plan_over<Q: PriorityQueue<Charge = Money>>(
+    view: &MoneyView<'_>,
+    request: Request,
+    cells: &mut [Row<Money>],
+    queue: &mut Q,
+    run: &mut [Step],
+) -> Result<Planned<Money>, Refusal>
+    ensures { λ r. ⌜ Outcome money (moneySite (sealedContents (now (now (view .entry) .survey)))) request (Q·PriorityQueue .many (now (queue .entry))) (Q·PriorityQueue .many (now (queue .exit))) (now (cells .entry)) (now (cells .exit)) (now (queue .entry)) (now (queue .exit)) (now (run .entry)) (now (run .exit)) r ⌝ }
+{
+    plan(view, request, cells, queue, run)
+}
+
 // Plans a cheapest run over a sealed survey. The cell rows and the queue are working memory.
 pub fn plan_for_money<Q: PriorityQueue<Charge = Money>>(
     survey: &Sealed,
@@ -30,5 +43,5 @@ pub fn plan_for_money<Q: PriorityQueue<Charge = Money>>(
     ensures problem { λ r. ⌜ Answered (sealedContents (now (survey .entry))) request (length (now (cells .entry))) (Q·PriorityQueue .many (now (queue .entry))) (length (now (run .entry))) (now (run .exit)) r ⌝ }
 {
     let view = MoneyView::over(survey);
-    plan(&view, request, cells, queue, run)
+    plan_over(&view, request, cells, queue, run)
 }

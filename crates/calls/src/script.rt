@@ -1,0 +1,84 @@
+// A whole text: the calls that are tried, and the plan that is made at the end.
+ghost use mathlib.Core.Path.{_≡_};
+ghost use Prim.Native.Nat.{_≤_};
+use charge::money::Money;
+use crate::line::read_call;
+use job::list::Answer;
+use job::list::Call;
+use job::list::Entry;
+use site::run::Request;
+use std::alloc::AllocError;
+use std::alloc::Global;
+
+// the calls before the last, none of them tried yet, and the request of the last
+#[derive(Drop)]
+pub struct Script {
+    pub entries: Vec<Entry<Money>>,
+    pub last: Request,
+}
+
+// why a text is not a script
+#[derive(Clone, Copy, Debug)]
+pub enum Trouble {
+    // the line with this number, from 1, is the text of no call
+    NoCall(u64),
+    // the last line, with this number, is no plan; 0 where there are no lines
+    NoPlan(u64),
+}
+
+// The calls of the lines, in their order, or the number of the first line that is none.
+fn read_lines(heap: Global, text: &str) -> Result<Result<Vec<Entry<Money>>, Trouble>, AllocError> {
+    let mut entries = Vec::new(heap);
+    let mut number: u64 = 0;
+    for line in text.lines() {
+        number = number.saturating_add(1);
+        match read_call(heap, line)? {
+            Some(call) => entries.push(Entry { call, answer: Answer::Untried })?,
+            None => return Ok(Err(Trouble::NoCall(number))),
+        }
+    }
+    Ok(Ok(entries))
+}
+
+// The script of a text, or why it is none.
+pub fn read_script(heap: Global, text: &str) -> Result<Result<Script, Trouble>, AllocError> {
+    let mut entries = match read_lines(heap, text)? {
+        Ok(entries) => entries,
+        Err(trouble) => return Ok(Err(trouble)),
+    };
+    let lines = entries.len() as u64;
+    match entries.pop() {
+        Some(Entry { call: Call::Plan(last), answer: _ }) => Ok(Ok(Script { entries, last })),
+        _ => Ok(Err(Trouble::NoPlan(lines))),
+    }
+}
+
+// The larger of a bound and that of a call, if it is a plan with a bound that can be asked for.
+fn larger_bound(bound: usize, call: Call) -> usize
+    requires { ⌜ bound ≤ 1000 ⌝ }
+    ensures { λ r. ⌜ r ≤ 1000 ⌝ }
+{
+    match call {
+        Call::Plan(request) => {
+            if request.bound > bound && request.bound <= 1000 {
+                request.bound
+            } else {
+                bound
+            }
+        }
+        _ => bound,
+    }
+}
+
+impl Script {
+    // The largest bound of the plans of the script, as far as it can be asked for: no plan needs more rows than one with it.
+    pub fn largest_bound(&self) -> usize
+        ensures { λ r. ⌜ r ≤ 1000 ⌝ }
+    {
+        let mut bound = larger_bound(0, Call::Plan(self.last));
+        for entry in self.entries.as_slice() {
+            bound = larger_bound(bound, entry.call);
+        }
+        bound
+    }
+}
