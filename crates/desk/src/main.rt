@@ -5,6 +5,7 @@
 // line, and then nothing is tried.
 use calls::script::Script;
 use calls::script::read_script;
+use input::print_fault;
 use std::env;
 use std::error::AnyError;
 use std::fs;
@@ -22,7 +23,7 @@ fn read_survey(rt: &LibcRuntime, file: &[u8]) -> Result<Option<Sealed>, AnyError
     match reader.read(file, &mut draft) {
         Ok(_) => Ok(Some(draft.seal())),
         Err(fault) => {
-            print::fault(rt, fault)?;
+            print_fault(rt, fault)?;
             Ok(None)
         }
     }

@@ -3,21 +3,17 @@ use calls::script::Trouble;
 use charge::money::Money;
 use job::list::Answer;
 use job::list::Call;
+use input::print_refusal;
+use input::print_text;
 use job::list::Entry;
 use planner::planned::Planned;
-use refusal::Fault;
 use refusal::Refusal;
+use sheet::page::sheet;
 use site::run::Request;
 use site::run::Step;
+use std::error::AnyError;
 use std::io;
 use survey::sealed::Sealed;
-
-// A refusal met in the survey file.
-pub fn fault(rt: &LibcRuntime, fault: Fault) -> io::Result<()> {
-    let code = fault.refusal.code();
-    let place = fault.place;
-    println!(rt, "REFUSED {code} {place}")
-}
 
 // Why the text cannot be read.
 pub fn trouble(rt: &LibcRuntime, trouble: Trouble) -> io::Result<()> {
@@ -30,11 +26,6 @@ pub fn trouble(rt: &LibcRuntime, trouble: Trouble) -> io::Result<()> {
     }
 }
 
-fn refused(rt: &LibcRuntime, refusal: Refusal) -> io::Result<()> {
-    let code = refusal.code();
-    println!(rt, "REFUSED {code}")
-}
-
 // What was done: a way was closed or reopened.
 fn done(rt: &LibcRuntime, call: Call) -> io::Result<()> {
     match call {
@@ -45,52 +36,35 @@ fn done(rt: &LibcRuntime, call: Call) -> io::Result<()> {
 }
 
 // What one listed call gave.
-pub fn answer(rt: &LibcRuntime, entry: &Entry<Money>) -> io::Result<()> {
+pub fn answer(rt: &LibcRuntime, entry: &Entry<Money>) -> Result<(), AnyError> {
     match entry.answer {
-        Answer::Untried => println!(rt, "UNTRIED"),
-        Answer::Done => done(rt, entry.call),
-        Answer::Refused(refusal) => refused(rt, refusal),
+        Answer::Untried => Ok(println!(rt, "UNTRIED")?),
+        Answer::Done => Ok(done(rt, entry.call)?),
+        Answer::Refused(refusal) => print_refusal(rt, refusal),
         Answer::Found(planned) => {
             let steps = planned.steps;
             let total = planned.total.counted();
-            println!(rt, "PLANNED {steps} STEPS TOTAL {total}")
+            Ok(println!(rt, "PLANNED {steps} STEPS TOTAL {total}")?)
         }
     }
 }
 
-// One step: its way, where that leaves and arrives, and R where a repeater is set, else -.
-fn step(rt: &LibcRuntime, survey: &Sealed, step: Step) -> io::Result<()> {
-    let number = step.way;
-    let end = if step.mark { "R" } else { "-" };
-    match survey.way(number) {
-        Some(way) => {
-            let from = way.from;
-            let to = way.to;
-            println!(rt, "{number} {from} {to} {end}")
-        }
-        None => println!(rt, "{number} {end}"),
-    }
-}
-
-// The plan of the last line: the steps and the total, or why there is none.
+// The plan of the last line: its sheet, or why there is none. A line of a sheet has less than 128 bytes.
 pub fn last(
     rt: &LibcRuntime,
     survey: &Sealed,
     request: Request,
     run: &[Step],
     gave: Result<Planned<Money>, Refusal>,
-) -> io::Result<()> {
-    let planned = match gave {
-        Ok(planned) => planned,
-        Err(refusal) => return refused(rt, refusal),
+) -> Result<(), AnyError> {
+    let count = match gave {
+        Ok(planned) => planned.steps.min(run.len()),
+        Err(refusal) => return print_refusal(rt, refusal),
     };
-    let start = request.start;
-    let end = request.end;
-    let bound = request.bound;
-    println!(rt, "RUN {start} {end} {bound}")?;
-    for taken in run.iter().take(planned.steps) {
-        step(rt, survey, *taken)?;
+    let size = count.saturating_add(2).saturating_mul(128);
+    let mut page = vec![in rt.alloc(); 0u8; size]?;
+    match sheet(survey, request, &run[0..count], &mut page) {
+        Ok(length) => print_text(rt, &page, length),
+        Err(refusal) => print_refusal(rt, refusal),
     }
-    let total = planned.total.counted();
-    println!(rt, "TOTAL {total}")
 }
