@@ -6,12 +6,14 @@ use crate::gave::Gave;
 use crate::gave::GavePartialEq;
 use crate::gave::of_money;
 use crate::memory::Memory;
+use crate::memory::Rows;
 use crate::memory::with_heap;
 use crate::memory::with_ordered_row;
 use charge::money::Money;
 use charge::money::MoneyCharge;
 use site::run::Request;
 use site::site::Site;
+use std::error::AnyError;
 use std::io;
 
 #[derive(Clone, Copy)]
@@ -65,7 +67,7 @@ fn show(rt: &LibcRuntime, gave: Gave) -> io::Result<()> {
 pub fn tell(
     rt: &LibcRuntime,
     tally: &mut Tally,
-    case: &Case,
+    case: Case,
     heap: Gave,
     row: Gave,
 ) -> io::Result<()> {
@@ -84,15 +86,18 @@ pub fn tell(
     println!(rt, "")
 }
 
-// Plans for money with each queue, on rows as the plan before left them.
+// Plans for money with each queue: with a heap on rows that hold anything, and then with an ordered row on the rows as that
+// plan left them.
 pub fn play<S: Site<Charge = Money>>(
     rt: &LibcRuntime,
     tally: &mut Tally,
-    case: &Case,
+    case: Case,
     site: &S,
-    memory: &mut Memory<Money>,
-) -> io::Result<()> {
-    let heap = of_money(with_heap(site, case.request, memory));
-    let row = of_money(with_ordered_row(site, case.request, memory));
-    tell(rt, tally, case, heap, row)
+    rows: Rows,
+) -> Result<(), AnyError> {
+    let mut memory = Memory::new(rt.alloc(), rows)?;
+    let heap = of_money(with_heap(site, case.request, &mut memory));
+    let row = of_money(with_ordered_row(site, case.request, &mut memory));
+    tell(rt, tally, case, heap, row)?;
+    Ok(())
 }

@@ -4,7 +4,7 @@ use crate::case::Tally;
 use crate::case::across;
 use crate::case::play;
 use crate::gave::Gave;
-use crate::memory::Memory;
+use crate::memory::each;
 use crate::survey::house;
 use charge::money::Money;
 use charge::money::MoneyCharge;
@@ -13,7 +13,6 @@ use job::job::work::JobSite;
 use refusal::Refusal;
 use site::site::Site;
 use std::error::AnyError;
-use std::io;
 use views::money::MoneyView;
 use views::money::MoneyViewSite;
 
@@ -38,9 +37,7 @@ fn within_35<S: Site<Charge = Money>>(
         request: across(35),
         expected,
     };
-    let mut memory = Memory::new(rt.alloc(), 144, 144, 144)?;
-    play(rt, tally, &case, site, &mut memory)?;
-    Ok(())
+    play(rt, tally, case, site, each(144))
 }
 
 // The way 2 closed on a job, and reopened.

@@ -15,13 +15,15 @@ mod survey;
 fn run(rt: &LibcRuntime) -> Result<(), AnyError> {
     let mut tally = Tally { cases: 0, right: 0 };
     plain::bounds(rt, &mut tally)?;
+    plain::nowhere(rt, &mut tally)?;
     plain::repeaters(rt, &mut tally)?;
     plain::disturbance(rt, &mut tally)?;
     rows::few_rows(rt, &mut tally)?;
     rows::used_rows(rt, &mut tally)?;
     jobs::closing(rt, &mut tally)?;
     jobs::closing_twice(rt, &mut tally)?;
-    floor::two_jobs(rt, &mut tally)?;
+    floor::on_two_jobs(rt, &mut tally)?;
+    floor::on_one_job(rt, &mut tally)?;
     floor::corner_to_corner(rt, &mut tally)?;
     let cases = tally.cases;
     let right = tally.right;

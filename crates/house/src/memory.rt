@@ -26,6 +26,27 @@ use slots::slot::SlotClone;
 use std::alloc::AllocError;
 use std::alloc::Global;
 
+// How many rows there are of each sort.
+#[derive(Clone, Copy)]
+pub struct Rows {
+    pub cells: usize,
+    pub slots: usize,
+    pub steps: usize,
+}
+
+// As many rows of each sort.
+pub fn each(many: usize) -> Rows
+    ensures cells { λ r. ⌜ r .cells ≡ many ⌝ }
+    ensures slots { λ r. ⌜ r .slots ≡ many ⌝ }
+    ensures steps { λ r. ⌜ r .steps ≡ many ⌝ }
+{
+    Rows {
+        cells: many,
+        slots: many,
+        steps: many,
+    }
+}
+
 // Cell rows, queue rows and run rows. A plan finds in them whatever the plan before left.
 #[derive(Drop)]
 pub struct Memory<C> {
@@ -36,13 +57,8 @@ pub struct Memory<C> {
 
 impl<C: Charge + Clone> Memory<C> {
     // So many rows of each sort, which hold anything.
-    pub fn new(
-        heap: Global,
-        cells: usize,
-        slots: usize,
-        steps: usize,
-    ) -> Result<Memory<C>, AllocError>
-        ensures { λ r. ⌜ made r (λ m. (vec-len (m .cells) ≡ cells) × (vec-len (m .slots) ≡ slots) × (vec-len (m .run) ≡ steps)) ⌝ }
+    pub fn new(heap: Global, rows: Rows) -> Result<Memory<C>, AllocError>
+        ensures { λ r. ⌜ made r (λ m. (vec-len (m .cells) ≡ rows .cells) × (vec-len (m .slots) ≡ rows .slots) × (vec-len (m .run) ≡ rows .steps)) ⌝ }
     {
         let charge = C::nothing();
         let cell = Cell {
@@ -65,9 +81,9 @@ impl<C: Charge + Clone> Memory<C> {
             position: 3,
         };
         let step = Step { way: 9, mark: true };
-        let cells = Vec::from_elem(heap, row, cells)?;
-        let slots = Vec::from_elem(heap, slot, slots)?;
-        let run = Vec::from_elem(heap, step, steps)?;
+        let cells = Vec::from_elem(heap, row, rows.cells)?;
+        let slots = Vec::from_elem(heap, slot, rows.slots)?;
+        let run = Vec::from_elem(heap, step, rows.steps)?;
         Ok(Memory { cells, slots, run })
     }
 }

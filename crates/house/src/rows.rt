@@ -7,12 +7,13 @@ use crate::case::tell;
 use crate::gave::Gave;
 use crate::gave::of_money;
 use crate::memory::Memory;
+use crate::memory::Rows;
 use crate::memory::again_with_heap;
 use crate::memory::again_with_ordered_row;
+use crate::memory::each;
 use crate::survey::house;
 use charge::money::MoneyCharge;
 use std::error::AnyError;
-use survey::sealed::Sealed;
 use views::money::MoneyView;
 use views::money::MoneyViewSite;
 
@@ -20,7 +21,6 @@ use views::money::MoneyViewSite;
 fn with_rows(
     rt: &LibcRuntime,
     tally: &mut Tally,
-    survey: &Sealed,
     cells: usize,
     slots: usize,
     steps: usize,
@@ -35,26 +35,29 @@ fn with_rows(
         request: across(35),
         expected,
     };
-    let mut memory = Memory::new(rt.alloc(), cells, slots, steps)?;
-    play(rt, tally, &case, &MoneyView::over(survey), &mut memory)?;
-    Ok(())
+    let survey = house(rt.alloc(), Some(2000))?;
+    let rows = Rows {
+        cells,
+        slots,
+        steps,
+    };
+    play(rt, tally, case, &MoneyView::over(&survey), rows)
 }
 
 // Four places with the losses 0 to 35 take 144 rows of each sort.
 pub fn few_rows(rt: &LibcRuntime, tally: &mut Tally) -> Result<(), AnyError> {
-    let survey = house(rt.alloc(), Some(2000))?;
-    with_rows(rt, tally, &survey, 144, 144, 144, Gave::Total(1500))?;
-    with_rows(rt, tally, &survey, 143, 144, 144, Gave::Refused(16))?;
-    with_rows(rt, tally, &survey, 144, 143, 144, Gave::Refused(16))?;
-    with_rows(rt, tally, &survey, 144, 144, 143, Gave::Refused(16))?;
-    with_rows(rt, tally, &survey, 143, 143, 143, Gave::Refused(16))
+    with_rows(rt, tally, 144, 144, 144, Gave::Total(1500))?;
+    with_rows(rt, tally, 143, 144, 144, Gave::Refused(16))?;
+    with_rows(rt, tally, 144, 143, 144, Gave::Refused(16))?;
+    with_rows(rt, tally, 144, 144, 143, Gave::Refused(16))?;
+    with_rows(rt, tally, 143, 143, 143, Gave::Refused(16))
 }
 
 // A plan within 44 and then one within 33, on the rows and the queue that the first has left.
 pub fn used_rows(rt: &LibcRuntime, tally: &mut Tally) -> Result<(), AnyError> {
     let survey = house(rt.alloc(), Some(2000))?;
     let site = MoneyView::over(&survey);
-    let mut memory = Memory::new(rt.alloc(), 180, 180, 180)?;
+    let mut memory = Memory::new(rt.alloc(), each(180))?;
     let case = Case {
         name: "bound 33 on the rows and the queue that bound 44 has left",
         request: across(33),
@@ -62,6 +65,6 @@ pub fn used_rows(rt: &LibcRuntime, tally: &mut Tally) -> Result<(), AnyError> {
     };
     let heap = of_money(again_with_heap(&site, across(44), case.request, &mut memory));
     let row = of_money(again_with_ordered_row(&site, across(44), case.request, &mut memory));
-    tell(rt, tally, &case, heap, row)?;
+    tell(rt, tally, case, heap, row)?;
     Ok(())
 }
