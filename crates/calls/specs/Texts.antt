@@ -1,7 +1,9 @@
 -- The text of a call on a job, as bytes. Stands on the calls and on decimal numbers.
 use mathlib.Core.List.{List, [], _∷_, _++_}
-use Prim.Native.Nat.{ℕ}
+use mathlib.Core.Path.{_≡_}
+use Prim.Native.Nat.{ℕ, _<_, _^_}
 use Rattle.std.specs.Written.{decimal}
+use Rattle.site.specs.declared.run.Request.{Request}
 use Rattle.job.specs.declared.list.Call.{Call}
 use Rattle.job.specs.declared.list.Call.the-variants.{Close, Reopen, Plan}
 
@@ -18,8 +20,21 @@ planWord = 112 ∷ 108 ∷ 97 ∷ 110 ∷ 32 ∷ []
 abbrev pub space : List ℕ
 space = 32 ∷ []
 
+abbrev pub requestText : Request → List ℕ
+requestText q = decimal (q .start) ++ (space ++ (decimal (q .end) ++ (space ++ decimal (q .bound))))
+
 -- a word and its numbers, in decimal, with one space between
 abbrev pub callText : Call → List ℕ
 callText (Close w) = closeWord ++ decimal w
 callText (Reopen w) = reopenWord ++ decimal w
-callText (Plan q) = planWord ++ (decimal (q .start) ++ (space ++ (decimal (q .end) ++ (space ++ decimal (q .bound)))))
+callText (Plan q) = planWord ++ requestText q
+
+-- the numbers of a call are such as a program holds
+abbrev pub Counted : Call → Type 0
+Counted (Close w) = w < 2 ^ 64
+Counted (Reopen w) = w < 2 ^ 64
+Counted (Plan q) = (q .start < 2 ^ 64) × (q .end < 2 ^ 64) × (q .bound < 2 ^ 64)
+
+-- the text is that of no call
+abbrev pub NoCall : List ℕ → Type 0
+NoCall text = (c : Call) → Counted c → text ≡ callText c → ⊥

@@ -22,8 +22,10 @@ pub struct Script {
 pub enum Trouble {
     // the line with this number, from 1, is the text of no call
     NoCall(u64),
-    // the last line, with this number, is no plan; 0 where there are no lines
+    // the last line, with this number, is no plan
     NoPlan(u64),
+    // there are no lines
+    NoLines,
 }
 
 // The calls of the lines, in their order, or the number of the first line that is none.
@@ -49,7 +51,8 @@ pub fn read_script(heap: Global, text: &str) -> Result<Result<Script, Trouble>, 
     let lines = entries.len() as u64;
     match entries.pop() {
         Some(Entry { call: Call::Plan(last), answer: _ }) => Ok(Ok(Script { entries, last })),
-        _ => Ok(Err(Trouble::NoPlan(lines))),
+        Some(_) => Ok(Err(Trouble::NoPlan(lines))),
+        None => Ok(Err(Trouble::NoLines)),
     }
 }
 

@@ -23,6 +23,7 @@ pub fn trouble(rt: &LibcRuntime, trouble: Trouble) -> io::Result<()> {
             "line {number} cannot be read: it is not \"close W\", \"reopen W\" or \"plan START END BOUND\"; nothing was tried"
         ),
         Trouble::NoPlan(number) => println!(rt, "line {number}, the last, is not a plan; nothing was tried"),
+        Trouble::NoLines => println!(rt, "the text has no line; nothing was tried"),
     }
 }
 
