@@ -1,8 +1,8 @@
 // A whole text: the calls that are tried, and the plan that is made at the end.
 ghost use mathlib.Core.Path.{_≡_};
 ghost use Prim.Native.Nat.{_≤_};
-use charge::money::Money;
 use crate::line::read_call;
+use charge::money::Money;
 use job::list::Answer;
 use job::list::Call;
 use job::list::Entry;
@@ -35,7 +35,10 @@ fn read_lines(heap: Global, text: &str) -> Result<Result<Vec<Entry<Money>>, Trou
     for line in text.lines() {
         number = number.saturating_add(1);
         match read_call(heap, line)? {
-            Some(call) => entries.push(Entry { call, answer: Answer::Untried })?,
+            Some(call) => entries.push(Entry {
+                call,
+                answer: Answer::Untried,
+            })?,
             None => return Ok(Err(Trouble::NoCall(number))),
         }
     }
@@ -50,7 +53,12 @@ pub fn read_script(heap: Global, text: &str) -> Result<Result<Script, Trouble>, 
     };
     let lines = entries.len() as u64;
     match entries.pop() {
-        Some(Entry { call: Call::Plan(last), answer: _ }) => Ok(Ok(Script { entries, last })),
+        Some(
+            Entry {
+                call: Call::Plan(last),
+                answer: _,
+            },
+        ) => Ok(Ok(Script { entries, last })),
         Some(_) => Ok(Err(Trouble::NoPlan(lines))),
         None => Ok(Err(Trouble::NoLines)),
     }

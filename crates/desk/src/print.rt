@@ -1,10 +1,10 @@
 // What the desk prints.
 use calls::script::Trouble;
 use charge::money::Money;
-use job::list::Answer;
-use job::list::Call;
 use input::print_refusal;
 use input::print_text;
+use job::list::Answer;
+use job::list::Call;
 use job::list::Entry;
 use planner::planned::Planned;
 use refusal::Refusal;
@@ -22,7 +22,10 @@ pub fn trouble(rt: &LibcRuntime, trouble: Trouble) -> io::Result<()> {
             rt,
             "line {number} cannot be read: it is not \"close W\", \"reopen W\" or \"plan START END BOUND\"; nothing was tried"
         ),
-        Trouble::NoPlan(number) => println!(rt, "line {number}, the last, is not a plan; nothing was tried"),
+        Trouble::NoPlan(number) => println!(
+            rt,
+            "line {number}, the last, is not a plan; nothing was tried"
+        ),
         Trouble::NoLines => println!(rt, "the text has no line; nothing was tried"),
     }
 }

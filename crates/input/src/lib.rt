@@ -20,7 +20,10 @@ pub fn request_in(bytes: &[u8]) -> Result<Request, Fault>
     ensures enough { λ r. ⌜ made r (λ _. 6 ≤ length (now (bytes .entry))) ⌝ }
 {
     if bytes.len() < 6 {
-        return Err(Fault { refusal: Refusal::CutShort, place: 0 });
+        return Err(Fault {
+            refusal: Refusal::CutShort,
+            place: 0,
+        });
     }
     let start = bytes[0] as usize * 256 + bytes[1] as usize;
     let end = bytes[2] as usize * 256 + bytes[3] as usize;

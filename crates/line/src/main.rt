@@ -38,20 +38,44 @@ const PAGE: usize = 65536;
 // Working memory, empty.
 fn cell_rows(heap: Global) -> Result<Vec<Row<Money>>, AllocError> {
     let charge = Money { cents: 0 };
-    let cell = Cell { charge, state: State::Unseen, from: 0, way: 0, mark: false, steps: 0 };
-    vec![in heap; Row { cell, hint: 0, head: 0, next: 0 }; ROWS]
+    let cell = Cell {
+        charge,
+        state: State::Unseen,
+        from: 0,
+        way: 0,
+        mark: false,
+        steps: 0,
+    };
+    vec![in heap; Row {
+        cell,
+        hint: 0,
+        head: 0,
+        next: 0
+    }; ROWS]
 }
 
 fn queue_rows(heap: Global) -> Result<Vec<Slot<Money>>, AllocError> {
-    vec![in heap; Slot { charge: Money { cents: 0 }, cell: 0, position: 0 }; ROWS]
+    vec![in heap; Slot {
+        charge: Money { cents: 0 },
+        cell: 0,
+        position: 0
+    }; ROWS]
 }
 
 fn run_rows(heap: Global) -> Result<Vec<Step>, AllocError> {
-    vec![in heap; Step { way: 0, mark: false }; ROWS]
+    vec![in heap; Step {
+        way: 0,
+        mark: false
+    }; ROWS]
 }
 
 // Prints the sheet of the first steps of the run rows.
-fn print_sheet(rt: &LibcRuntime, survey: &Sealed, request: Request, steps: &[Step]) -> Result<(), AnyError> {
+fn print_sheet(
+    rt: &LibcRuntime,
+    survey: &Sealed,
+    request: Request,
+    steps: &[Step],
+) -> Result<(), AnyError> {
     let mut page = vec![in rt.alloc(); 0u8; PAGE]?;
     match sheet(survey, request, steps, &mut page) {
         Ok(length) => print_text(rt, &page, length),

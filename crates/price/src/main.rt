@@ -33,11 +33,17 @@ fn count_steps(bytes: &[u8]) -> Result<usize, Fault>
     ensures { λ r. ⌜ made r (λ n. 8 + 3 * n ≤ length (now (bytes .entry))) ⌝ }
 {
     if bytes.len() < 8 {
-        return Err(Fault { refusal: Refusal::CutShort, place: 0 });
+        return Err(Fault {
+            refusal: Refusal::CutShort,
+            place: 0,
+        });
     }
     let count = bytes[6] as usize * 256 + bytes[7] as usize;
     if bytes.len() - 8 < 3 * count {
-        return Err(Fault { refusal: Refusal::CutShort, place: 0 });
+        return Err(Fault {
+            refusal: Refusal::CutShort,
+            place: 0,
+        });
     }
     Ok(count)
 }
@@ -48,14 +54,22 @@ fn read_steps(heap: Global, bytes: &[u8]) -> Result<Vec<Step>, AllocError> {
     let mut at = 0;
     while at + 3 <= bytes.len() {
         let way = bytes[at] as usize * 256 + bytes[at + 1] as usize;
-        steps.push(Step { way, mark: bytes[at + 2] == 1 })?;
+        steps.push(Step {
+            way,
+            mark: bytes[at + 2] == 1,
+        })?;
         at += 3;
     }
     Ok(steps)
 }
 
 // Prints the sheet of the steps over a survey.
-fn print_sheet(rt: &LibcRuntime, survey: &Sealed, request: Request, steps: &[Step]) -> Result<(), AnyError> {
+fn print_sheet(
+    rt: &LibcRuntime,
+    survey: &Sealed,
+    request: Request,
+    steps: &[Step],
+) -> Result<(), AnyError> {
     let mut page = vec![in rt.alloc(); 0u8; PAGE]?;
     match sheet(survey, request, steps, &mut page) {
         Ok(length) => print_text(rt, &page, length),

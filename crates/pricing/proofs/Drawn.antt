@@ -32,10 +32,10 @@ module _ {C : Type 0} (k : Kind C) (m : SiteMeaning C) (q : Request) (steps : Li
   followed-on here there s rest g f = record {
     whole = λ l. f .whole (g .over, g .goes, subst (λ p. Lawful m q p (lossAfter (s .mark) (here .loss + g .over .loss)) rest) (g .place) (subst (λ n. Lawful m q (there .place) n rest) (g .loss) l));
     back = λ r.
-      let l = f .back r in
-      let same = same-way (m .way (s .way)) (l .0) (g .over) (l .1 .opens) (g .goes .opens) in
-      let on = subst (λ w. Lawful m q (w .to) (lossAfter (s .mark) (here .loss + w .loss)) rest) same (l .2) in
-      subst (λ n. Lawful m q (there .place) n rest) (sym (g .loss)) (subst (λ p. Lawful m q p (lossAfter (s .mark) (here .loss + g .over .loss)) rest) (sym (g .place)) on);
+        let l = f .back r in
+        let same = same-way (m .way (s .way)) (l .0) (g .over) (l .1 .opens) (g .goes .opens) in
+        let on = subst (λ w. Lawful m q (w .to) (lossAfter (s .mark) (here .loss + w .loss)) rest) same (l .2) in
+        subst (λ n. Lawful m q (there .place) n rest) (sym (g .loss)) (subst (λ p. Lawful m q p (lossAfter (s .mark) (here .loss + g .over .loss)) rest) (sym (g .place)) on);
     sum = ap (λ c. totalFrom k m c rest) (g .sum ∙ ap (afterWay k m (here .sum) (s .mark)) (sym (g .goes .opens))) ∙ f .sum;
   }
 

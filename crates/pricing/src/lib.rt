@@ -28,11 +28,20 @@ fn mark_allowed<S: Site>(site: &S, request: Request, mark: bool, place: usize) -
     ensures yes { λ r. ⌜ (r ≡ true → MarkAllowed (S·Site .meaning (now (site .entry))) request mark place) ⌝ }
     ensures back { λ r. ⌜ (MarkAllowed (S·Site .meaning (now (site .entry))) request mark place → r ≡ true) ⌝ }
 {
-    if mark { markable(site, request, place) } else { true }
+    if mark {
+        markable(site, request, place)
+    } else {
+        true
+    }
 }
 
 // Where a step leads from where the run stands, or none where it may not be made.
-pub fn step_on<S: Site>(site: &S, request: Request, here: Stand<S::Charge>, step: Step) -> Option<Stand<S::Charge>>
+pub fn step_on<S: Site>(
+    site: &S,
+    request: Request,
+    here: Stand<S::Charge>,
+    step: Step,
+) -> Option<Stand<S::Charge>>
     ensures { λ r. ⌜ BySome r ((w : OpenWay S·Charge) → Goes (S·Site .meaning (now (site .entry))) request (here .place) (here .loss) step w → ⊥) (λ t. Gone (kindOf Charge·Charge) (S·Site .meaning (now (site .entry))) request here step t) ⌝ }
 {
     let way = site.way(step.way)?;
@@ -47,16 +56,28 @@ pub fn step_on<S: Site>(site: &S, request: Request, here: Stand<S::Charge>, step
     }
     let loss = loss_after(step.mark, here.loss + way.loss as usize);
     let sum = charge_after(site, here.sum, step.mark, way);
-    Some(Stand { place: way.to, loss, sum })
+    Some(Stand {
+        place: way.to,
+        loss,
+        sum,
+    })
 }
 
 // The total of a run, or none where the steps are no lawful run for the request.
 pub fn total_of<S: Site>(site: &S, request: Request, steps: &[Step]) -> Option<S::Charge>
     ensures { λ r. ⌜ BySome r (Run (S·Site .meaning (now (site .entry))) request (now (steps .entry)) → ⊥) (λ c. Run (S·Site .meaning (now (site .entry))) request (now (steps .entry)) × (c ≡ total (kindOf Charge·Charge) (S·Site .meaning (now (site .entry))) (now (steps .entry)))) ⌝ }
 {
-    let mut here = Stand { place: request.start, loss: 0, sum: S::Charge::nothing() };
+    let mut here = Stand {
+        place: request.start,
+        loss: 0,
+        sum: S::Charge::nothing(),
+    };
     for step in steps {
         here = step_on(site, request, here, *step)?;
     }
-    if here.place == request.end { Some(here.sum) } else { None }
+    if here.place == request.end {
+        Some(here.sum)
+    } else {
+        None
+    }
 }

@@ -17,8 +17,22 @@ fn enter(draft: &mut Draft) -> Result<(), Refusal> {
     draft.add_place(None)?;
     draft.add_place(Some(0))?;
     draft.add_place(None)?;
-    draft.add_way(WayEntry { from: 0, to: 1, letter: 'U', grade: 3, metres: 100, price: 900 })?;
-    draft.add_way(WayEntry { from: 1, to: 2, letter: 'F', grade: 5, metres: 26, price: 400 })?;
+    draft.add_way(WayEntry {
+        from: 0,
+        to: 1,
+        letter: 'U',
+        grade: 3,
+        metres: 100,
+        price: 900,
+    })?;
+    draft.add_way(WayEntry {
+        from: 1,
+        to: 2,
+        letter: 'F',
+        grade: 5,
+        metres: 26,
+        price: 400,
+    })?;
     draft.reprice(1, 350)
 }
 
@@ -44,6 +58,9 @@ fn main(rt: LibcRuntime) -> Result<(), AnyError> {
     let ways = survey.ways();
     let price = price_of(&survey, 1);
     let loss = loss_of(&survey, 1);
-    println!(rt, "entered {entered}: {places} places and {ways} ways; way 1 costs {price} cents and loses {loss} tenths")?;
+    println!(
+        rt,
+        "entered {entered}: {places} places and {ways} ways; way 1 costs {price} cents and loses {loss} tenths"
+    )?;
     Ok(())
 }

@@ -2,8 +2,8 @@
 ghost use mathlib.Core.Path.{_≡_};
 ghost use Rattle.sheet.specs.Lines.{textOf};
 ghost use Rattle.sheet.specs.Sheet.{runLine, markEnd, stepLine, totalLine};
-use charge::money::Money;
 use crate::text::TextLine;
+use charge::money::Money;
 use site::run::Request;
 
 // The first line: RUN, start, end and bound.

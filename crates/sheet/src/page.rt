@@ -11,11 +11,11 @@ ghost use Rattle.views.specs.SurveySite.{moneySite};
 ghost use Rattle.sheet.specs.Lines.{textOf};
 ghost use Rattle.sheet.specs.Sheet.{sheetText};
 ghost use Rattle.sheet.specs.Page.{PageDrawn, PageRefused};
-use charge::money::Money;
 use crate::lines::run_line;
 use crate::lines::total_line;
 use crate::steps::put_steps;
 use crate::steps::steps_length;
+use charge::money::Money;
 use pricing::total_of;
 use refusal::Refusal;
 use search::check::check_request;
@@ -26,7 +26,13 @@ use views::money::MoneyView;
 use views::money::MoneyViewSite;
 
 // The sheet of a lawful run, whose total is known, at the front of the bytes.
-fn put_sheet(survey: &Sealed, request: &Request, steps: &[Step], sum: Money, out: &mut [u8]) -> Result<usize, Refusal>
+fn put_sheet(
+    survey: &Sealed,
+    request: &Request,
+    steps: &[Step],
+    sum: Money,
+    out: &mut [u8],
+) -> Result<usize, Refusal>
     requires lawful { ⌜ Run (moneySite (sealedContents (now survey))) (now request) (now steps) ⌝ }
     requires bound { ⌜ now request .bound ≤ 1000 ⌝ }
     requires sum { ⌜ sum ≡ total moneys.money (moneySite (sealedContents (now survey))) (now steps) ⌝ }
@@ -51,7 +57,12 @@ fn put_sheet(survey: &Sealed, request: &Request, steps: &[Step], sum: Money, out
 // The sheet of a run that was drawn by hand or planned: it is written to the front of the bytes, and its length
 // answered. Refused are, in this order, a missing start or end, a wrong bound, steps that are no lawful run for money, and
 // a sheet that does not fit; then all bytes stay.
-pub fn sheet(survey: &Sealed, request: Request, steps: &[Step], out: &mut [u8]) -> Result<usize, Refusal>
+pub fn sheet(
+    survey: &Sealed,
+    request: Request,
+    steps: &[Step],
+    out: &mut [u8],
+) -> Result<usize, Refusal>
     ensures { λ r. ⌜ Cases r (λ n. PageDrawn (moneySite (sealedContents (now (survey .entry)))) request (now (steps .entry)) (now (out .entry)) (now (out .exit)) n) (λ e. PageRefused (moneySite (sealedContents (now (survey .entry)))) request (now (steps .entry)) (now (out .entry)) e × (now (out .exit) ≡ now (out .entry))) ⌝ }
 {
     check_request(survey.places(), request)?;

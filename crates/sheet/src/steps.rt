@@ -33,14 +33,25 @@ fn arrive<S: Site>(site: &S, loss: usize, step: Step) -> Arrival
         Some(way) => {
             let arrived = loss + way.loss as usize;
             let line = step_line(step.way, way.from, way.to, arrived, step.mark);
-            Arrival { line, loss: loss_after(step.mark, arrived) }
+            Arrival {
+                line,
+                loss: loss_after(step.mark, arrived),
+            }
         }
-        None => Arrival { line: TextLine::new(), loss },
+        None => Arrival {
+            line: TextLine::new(),
+            loss,
+        },
     }
 }
 
 // How long the lines of all steps are, or none where they are longer than `most`.
-pub(crate) fn steps_length<S: Site>(site: &S, request: &Request, steps: &[Step], most: usize) -> Option<usize>
+pub(crate) fn steps_length<S: Site>(
+    site: &S,
+    request: &Request,
+    steps: &[Step],
+    most: usize,
+) -> Option<usize>
     requires lawful { ⌜ Run (S·Site .meaning (now site)) (now request) (now steps) ⌝ }
     requires bound { ⌜ now request .bound ≤ 1000 ⌝ }
     ensures { λ r. ⌜ BySome r (most < length (stepLines (S·Site .meaning (now (site .entry))) 0 (now (steps .entry)))) (λ n. (n ≡ length (stepLines (S·Site .meaning (now (site .entry))) 0 (now (steps .entry)))) × (n ≤ most)) ⌝ }
@@ -59,7 +70,13 @@ pub(crate) fn steps_length<S: Site>(site: &S, request: &Request, steps: &[Step],
 }
 
 // The lines of all steps, into the bytes from a place on.
-pub(crate) fn put_steps<S: Site>(site: &S, request: &Request, steps: &[Step], out: &mut [u8], start: usize) -> Result<usize, Refusal>
+pub(crate) fn put_steps<S: Site>(
+    site: &S,
+    request: &Request,
+    steps: &[Step],
+    out: &mut [u8],
+    start: usize,
+) -> Result<usize, Refusal>
     requires lawful { ⌜ Run (S·Site .meaning (now site)) (now request) (now steps) ⌝ }
     requires bound { ⌜ now request .bound ≤ 1000 ⌝ }
     requires room { ⌜ start + length (stepLines (S·Site .meaning (now site)) 0 (now steps)) ≤ length (now out) ⌝ }

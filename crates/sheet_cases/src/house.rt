@@ -7,7 +7,14 @@ use survey::sealed::Sealed;
 
 // A way of U cable.
 fn way(from: u16, to: u16, grade: u8, metres: u16, price: u32) -> WayEntry {
-    WayEntry { from, to, letter: 'U', grade, metres, price }
+    WayEntry {
+        from,
+        to,
+        letter: 'U',
+        grade,
+        metres,
+        price,
+    }
 }
 
 pub fn house(heap: Global, first: Option<u32>) -> Result<Sealed, AnyError> {
@@ -16,7 +23,12 @@ pub fn house(heap: Global, first: Option<u32>) -> Result<Sealed, AnyError> {
     for repeater in [None, first, Some(500), None] {
         entered = entered && draft.add_place(repeater).is_ok();
     }
-    for entry in [way(0, 1, 1, 10, 300), way(1, 3, 1, 10, 300), way(1, 2, 7, 5, 200), way(2, 1, 7, 5, 200)] {
+    for entry in [
+        way(0, 1, 1, 10, 300),
+        way(1, 3, 1, 10, 300),
+        way(1, 2, 7, 5, 200),
+        way(2, 1, 7, 5, 200),
+    ] {
         entered = entered && draft.add_way(entry).is_ok();
     }
     if !entered {

@@ -7,7 +7,14 @@ use survey_file::reader::FileReader;
 
 // A file of so many blank places and so many ways from place 0 to place 1, of some metres at some price, with some bytes
 // behind its end.
-fn file(heap: Global, places: usize, ways: usize, metres: u8, price: u32, behind: usize) -> Result<Vec<u8>, AllocError> {
+fn file(
+    heap: Global,
+    places: usize,
+    ways: usize,
+    metres: u8,
+    price: u32,
+    behind: usize,
+) -> Result<Vec<u8>, AllocError> {
     let mut bytes = Vec::new(heap);
     bytes.extend_from_slice(&[1, 0, 2, 0, 1])?;
     for _ in 0..places {
@@ -27,7 +34,12 @@ fn file(heap: Global, places: usize, ways: usize, metres: u8, price: u32, behind
 }
 
 // What the reader answers to a file.
-pub fn answer_to(rt: &LibcRuntime, reader: &mut FileReader, name: &str, bytes: &[u8]) -> Result<(), AnyError> {
+pub fn answer_to(
+    rt: &LibcRuntime,
+    reader: &mut FileReader,
+    name: &str,
+    bytes: &[u8],
+) -> Result<(), AnyError> {
     let mut draft = Draft::new(rt.alloc())?;
     match reader.read(bytes, &mut draft) {
         Ok(()) => {
@@ -47,12 +59,27 @@ pub fn answer_to(rt: &LibcRuntime, reader: &mut FileReader, name: &str, bytes: &
 // Files at a limit, which are read, and one past it, which are refused.
 pub fn limits(rt: &LibcRuntime, reader: &mut FileReader) -> Result<(), AnyError> {
     let heap = rt.alloc();
-    answer_to(rt, reader, "no places, no ways", &file(heap, 0, 0, 0, 0, 0)?)?;
-    answer_to(rt, reader, "256 places, 1,024 ways", &file(heap, 256, 1024, 200, 1000000, 0)?)?;
+    answer_to(
+        rt,
+        reader,
+        "no places, no ways",
+        &file(heap, 0, 0, 0, 0, 0)?,
+    )?;
+    answer_to(
+        rt,
+        reader,
+        "256 places, 1,024 ways",
+        &file(heap, 256, 1024, 200, 1000000, 0)?,
+    )?;
     answer_to(rt, reader, "257 places", &file(heap, 257, 0, 0, 0, 0)?)?;
     answer_to(rt, reader, "1,025 ways", &file(heap, 2, 1025, 0, 0, 0)?)?;
     answer_to(rt, reader, "one place, a way", &file(heap, 1, 1, 0, 0, 0)?)?;
     answer_to(rt, reader, "201 metres", &file(heap, 2, 1, 201, 0, 0)?)?;
-    answer_to(rt, reader, "a price of 1,000,001", &file(heap, 2, 1, 0, 1000001, 0)?)?;
+    answer_to(
+        rt,
+        reader,
+        "a price of 1,000,001",
+        &file(heap, 2, 1, 0, 1000001, 0)?,
+    )?;
     answer_to(rt, reader, "an extra byte", &file(heap, 2, 1, 0, 0, 1)?)
 }

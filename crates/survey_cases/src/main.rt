@@ -2,14 +2,15 @@
 // limit, and some losses of the card. Expected figures stand in the file stdout.
 mod files;
 mod house;
-use card::loss;
+
 use crate::files::answer_to;
 use crate::files::limits;
 use crate::house::HOUSE;
 use crate::house::field_start;
 use crate::house::written;
-use std::error::AnyError;
+use card::loss;
 use std::alloc::Global;
+use std::error::AnyError;
 use survey::draft::Draft;
 use survey_file::reader::FileReader;
 
@@ -40,7 +41,11 @@ fn changes(reader: &mut FileReader, heap: Global) -> Result<(usize, usize, usize
             match reader.read(&file, &mut draft) {
                 Err(_) => refused = refused.saturating_add(1),
                 Ok(()) => {
-                    if written(draft, &file) { other = other.saturating_add(1) } else { wrong = wrong.saturating_add(1) }
+                    if written(draft, &file) {
+                        other = other.saturating_add(1)
+                    } else {
+                        wrong = wrong.saturating_add(1)
+                    }
                 }
             }
         }
@@ -64,10 +69,16 @@ fn main(rt: LibcRuntime) -> Result<(), AnyError> {
     let ways = draft.ways();
     println!(rt, "the house reads: {whole}, {places} places, {ways} ways")?;
     let same = written(draft, &HOUSE);
-    println!(rt, "its file is written with 88 bytes as it was read: {same}")?;
+    println!(
+        rt,
+        "its file is written with 88 bytes as it was read: {same}"
+    )?;
     let mut kept = Draft::new(heap)?;
     let right = fronts(&mut reader, &mut kept);
-    println!(rt, "of 88 proper fronts {right} are refused with 1 at the field that is cut")?;
+    println!(
+        rt,
+        "of 88 proper fronts {right} are refused with 1 at the field that is cut"
+    )?;
     let untouched = kept.places() == 0 && kept.ways() == 0;
     println!(rt, "the draft is untouched by them: {untouched}")?;
     let (refused, other, wrong) = changes(&mut reader, heap)?;

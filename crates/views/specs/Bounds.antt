@@ -46,17 +46,17 @@ module _ {C : Type 0} (wayCharge : WayEntry → C) (repeaterCharge : ℕ → C) 
     no-repeater = λ p h. ap (repeaterOf repeaterCharge) (nth-past (sealedContents s .places) p h);
     no-way = λ n h. ap (wayOf wayCharge) (nth-past (sealedContents s .ways) n h);
     from-in = λ n w h.
-      let q = entered wayCharge (nth (sealedContents s .ways) n) w h in
-      let ends = way-ends (length (sealedContents s .places)) (q .0) (passed n (q .0) (q .1)) in
-      subst (λ v. v .from < length (sealedContents s .places)) (q .2) (ends .0);
+        let q = entered wayCharge (nth (sealedContents s .ways) n) w h in
+        let ends = way-ends (length (sealedContents s .places)) (q .0) (passed n (q .0) (q .1)) in
+        subst (λ v. v .from < length (sealedContents s .places)) (q .2) (ends .0);
     to-in = λ n w h.
-      let q = entered wayCharge (nth (sealedContents s .ways) n) w h in
-      let ends = way-ends (length (sealedContents s .places)) (q .0) (passed n (q .0) (q .1)) in
-      subst (λ v. v .to < length (sealedContents s .places)) (q .2) (ends .1);
+        let q = entered wayCharge (nth (sealedContents s .ways) n) w h in
+        let ends = way-ends (length (sealedContents s .places)) (q .0) (passed n (q .0) (q .1)) in
+        subst (λ v. v .to < length (sealedContents s .places)) (q .2) (ends .1);
     loss-in = λ n w h.
-      let q = entered wayCharge (nth (sealedContents s .ways) n) w h in
-      let cable = way-loss (length (sealedContents s .places)) (q .0) (passed n (q .0) (q .1)) in
-      let small = loss-small (q .0 .letter) (q .0 .metres) (cable .0) (cable .1) in
-      let is = loss-is (q .0) (cable .0) (cable .1) in
-      subst (λ v. v .loss ≤ 65535) (q .2) (omega arith);
+        let q = entered wayCharge (nth (sealedContents s .ways) n) w h in
+        let cable = way-loss (length (sealedContents s .places)) (q .0) (passed n (q .0) (q .1)) in
+        let small = loss-small (q .0 .letter) (q .0 .metres) (cable .0) (cable .1) in
+        let is = loss-is (q .0) (cable .0) (cable .1) in
+        subst (λ v. v .loss ≤ 65535) (q .2) (omega arith);
   }

@@ -17,5 +17,10 @@ fn loss_of(entry: WayEntry) -> u16
 pub(crate) fn open_way<C: Copy>(entry: WayEntry, charge: C) -> Way<C>
     ensures { λ r. ⌜ r ≡ openWay entry charge ⌝ }
 {
-    Way { from: entry.from as usize, to: entry.to as usize, charge, loss: loss_of(entry) }
+    Way {
+        from: entry.from as usize,
+        to: entry.to as usize,
+        charge,
+        loss: loss_of(entry),
+    }
 }

@@ -1,4 +1,4 @@
 // Sites over a sealed survey: one for each charge kind.
+pub mod disturbance;
 pub mod entry;
 pub mod money;
-pub mod disturbance;

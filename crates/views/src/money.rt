@@ -4,9 +4,9 @@ ghost use Rattle.charge.specs.Moneys.{ofCents};
 ghost use Rattle.survey.specs.Sealing.{sealedContents};
 ghost use Rattle.views.specs.SurveySite.{moneySite};
 ghost use Rattle.views.specs.Bounds.{sealedBounded};
+use crate::entry::open_way;
 use charge::money::Money;
 use charge::money::MoneyCharge;
-use crate::entry::open_way;
 use site::site::Site;
 use site::way::Way;
 use survey::sealed::Sealed;
@@ -42,14 +42,21 @@ pub impl<'a> Site for MoneyView<'a> as MoneyViewSite {
 
     fn repeater(&self, place: usize) -> Option<Money> {
         match self.survey.place(place)?.repeater {
-            Some(price) => Some(Money { cents: price as u64 }),
+            Some(price) => Some(Money {
+                cents: price as u64,
+            }),
             None => None,
         }
     }
 
     fn way(&self, number: usize) -> Option<Way<Money>> {
         match self.survey.way(number) {
-            Some(entry) => Some(open_way(entry, Money { cents: entry.price as u64 })),
+            Some(entry) => Some(open_way(
+                entry,
+                Money {
+                    cents: entry.price as u64,
+                },
+            )),
             None => None,
         }
     }

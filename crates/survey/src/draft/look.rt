@@ -12,7 +12,11 @@ use crate::entry::WayEntry;
 fn item<T: Copy>(items: &Vec<T>, number: usize) -> Option<T>
     ensures { λ r. ⌜ r ≡ nth (vec-items (now (items .entry))) number ⌝ }
 {
-    if number < items.len() { Some(items[number]) } else { None }
+    if number < items.len() {
+        Some(items[number])
+    } else {
+        None
+    }
 }
 
 impl Draft {

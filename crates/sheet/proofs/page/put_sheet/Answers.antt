@@ -28,7 +28,7 @@ returns-then-out-ends c =
     let whole = ap length text in
     let sheet = sheetText (moneySite (sealedContents (c .args .survey .now))) (c .args .request .now) (c .args .steps .now) in
     let short : length out < 0 + length sheet =
-          omega (arith, c .len .ensures, c .len-2 .ensures, c .if-out-ends .taken) in
+    omega (arith, c .len .ensures, c .len-2 .ensures, c .if-out-ends .taken) in
     record { answer = sym (placed-not out 0 sheet short); after = sym (over-not out 0 sheet short) }
 
 pub returns-in-rest : need.returns-in-rest
@@ -43,7 +43,7 @@ returns-in-rest c =
     let whole = ap length text in
     let sheet = sheetText (moneySite (sealedContents (c .args .survey .now))) (c .args .request .now) (c .args .steps .now) in
     let short : length out < 0 + length sheet =
-          omega (arith, c .len .ensures, c .len-2 .ensures, c .if-out-ends .left, c .in-rest .ensures tt) in
+    omega (arith, c .len .ensures, c .len-2 .ensures, c .if-out-ends .left, c .in-rest .ensures tt) in
     record { answer = sym (placed-not out 0 sheet short); after = sym (over-not out 0 sheet short) }
 
 pub returns-in-Break-after-first : need.returns-in-Break-after-first
@@ -67,7 +67,7 @@ returns c =
     let told = c .in-Continue-after-first .ensures tt in
     let told-steps = c .in-Continue-after-steps .ensures tt in
     let laid = three-laid out first steps last room (c .in-Continue-after-first .after-first) (c .in-Continue-after-steps .after-steps) (c .put-into .last .out) (c .put-steps .last .out)
-          (told .answer) (told .after) (told-steps .answer) (told-steps .after) in
+    (told .answer) (told .after) (told-steps .answer) (told-steps .after) in
     record {
       answer = c .put-into-2 .ensures .answer ∙ laid .0 ∙ ap (placed out 0) text;
       after = c .put-into-2 .ensures .after ∙ laid .1 ∙ ap (over out 0) text;

@@ -18,7 +18,7 @@ arrive-arrival-requires g c κs =
 pub returns-in-Break-at : need.returns-in-Break-at
 returns-in-Break-at g c =
     absurd (line-not-refused (g .S·Site .meaning (c .args .site .now)) (c .args .request .now) (c .args .steps .now) (c .args .out .now) (c .args .start) (c .loop-step .loss) (c .loop-step .step-index) (c .loop-step .at) (c .loop-step .out)
-      (textOf (c .arrive-arrival .result .line)) (c .pre .room) (c .loop-step-test .taken) (c .loop-step .inv) (c .arrive-arrival .ensures .line) _ (c .in-Break-at .ensures tt .answer))
+    (textOf (c .arrive-arrival .result .line)) (c .pre .room) (c .loop-step-test .taken) (c .loop-step .inv) (c .arrive-arrival .ensures .line) _ (c .in-Break-at .ensures tt .answer))
 
 pub loop-step-again : need.loop-step-again
 loop-step-again g c =
@@ -30,5 +30,5 @@ loop-step-again g c =
 pub returns : need.returns
 returns g c =
     let all = printed-all (g .S·Site .meaning (c .args .site .now)) (c .args .request .now) (c .args .steps .now) (c .args .out .now) (c .args .start) (c .loop-step .loss) (c .loop-step .step-index) (c .loop-step .at) (c .loop-step .out)
-          (c .loop-step-test .left) (c .loop-step .inv) in
+    (c .loop-step-test .left) (c .loop-step .inv) in
     record { answer = ap Ok (all .0); after = all .1 }
