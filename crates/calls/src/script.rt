@@ -1,6 +1,12 @@
 // A whole text: the calls that are tried, and the plan that is made at the end.
 ghost use mathlib.Core.Path.{_≡_};
+ghost use mathlib.Core.List.{[], _∷_, _++_};
 ghost use Prim.Native.Nat.{_≤_};
+ghost use Rattle.std.specs.Of.Vec.{vec-items};
+ghost use Rattle.std.specs.Vec.{made};
+ghost use Rattle.job.specs.declared.list.Call.the-variants.{Plan};
+ghost use Rattle.job.specs.Replay.{callsOf};
+ghost use Rattle.calls.specs.Texts.{TextOf, CutAt};
 use charge::money::Money;
 use crate::line::read_call;
 use job::list::Answer;
@@ -28,30 +34,49 @@ pub enum Trouble {
     NoLines,
 }
 
+// The first line of a text, and what stands behind its line feed.
+fn cut_line(text: &str) -> (&str, &str)
+    ensures { λ r. ⌜ CutAt (now (text .entry)) (now (r .0)) (now (r .1)) ⌝ }
+{
+    match text.split_once('\n') {
+        Some((line, others)) => (line, others),
+        None => (text, ""),
+    }
+}
+
 // The calls of the lines, in their order, or the number of the first line that is none.
-fn read_lines(heap: Global, text: &str) -> Result<Result<Vec<Entry<Money>>, Trouble>, AllocError> {
+fn read_lines(heap: Global, text: &str) -> Result<Result<Vec<Entry<Money>>, Trouble>, AllocError>
+    ensures { λ r. ⌜ made r (λ s. made s (λ v. TextOf (now (text .entry)) (callsOf (vec-items v)))) ⌝ }
+{
     let mut entries = Vec::new(heap);
     let mut number: u64 = 0;
-    for line in text.lines() {
+    let mut rest = text;
+    while !rest.is_empty() {
         number = number.saturating_add(1);
+        let (line, others) = cut_line(rest);
         match read_call(heap, line)? {
             Some(call) => entries.push(Entry { call, answer: Answer::Untried })?,
             None => return Ok(Err(Trouble::NoCall(number))),
         }
+        rest = others;
     }
     Ok(Ok(entries))
 }
 
 // The script of a text, or why it is none.
-pub fn read_script(heap: Global, text: &str) -> Result<Result<Script, Trouble>, AllocError> {
+pub fn read_script(heap: Global, text: &str) -> Result<Result<Script, Trouble>, AllocError>
+    ensures { λ r. ⌜ made r (λ s. made s (λ script. TextOf (now (text .entry)) (callsOf (vec-items (script .entries)) ++ Plan (script .last) ∷ []))) ⌝ }
+{
     let mut entries = match read_lines(heap, text)? {
         Ok(entries) => entries,
         Err(trouble) => return Ok(Err(trouble)),
     };
     let lines = entries.len() as u64;
     match entries.pop() {
-        Some(Entry { call: Call::Plan(last), answer: _ }) => Ok(Ok(Script { entries, last })),
-        Some(_) => Ok(Err(Trouble::NoPlan(lines))),
+        Some(entry) => match entry.call {
+            Call::Plan(last) => Ok(Ok(Script { entries, last })),
+            _ => Ok(Err(Trouble::NoPlan(lines))),
+        },
         None => Ok(Err(Trouble::NoLines)),
     }
 }
