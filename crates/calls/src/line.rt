@@ -78,7 +78,11 @@ pub fn read_call(heap: Global, line: &str) -> Result<Option<Call>, AllocError>
         None => Ok(None),
         Some(call) => {
             let text = text_of(heap, call)?;
-            if text.as_str() == line { Ok(Some(call)) } else { Ok(None) }
+            if text.as_str() == line {
+                Ok(Some(call))
+            } else {
+                Ok(None)
+            }
         }
     }
 }

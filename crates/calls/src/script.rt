@@ -6,9 +6,11 @@ ghost use Rattle.std.specs.Of.Vec.{vec-items};
 ghost use Rattle.std.specs.Vec.{made};
 ghost use Rattle.job.specs.declared.list.Call.the-variants.{Plan};
 ghost use Rattle.job.specs.Replay.{callsOf};
+ghost use Rattle.std.specs.shelf.Lists.{All};
+ghost use Rattle.calls.specs.Covering.{Covers};
 ghost use Rattle.calls.specs.Texts.{TextOf, CutAt};
-use charge::money::Money;
 use crate::line::read_call;
+use charge::money::Money;
 use job::list::Answer;
 use job::list::Call;
 use job::list::Entry;
@@ -55,7 +57,10 @@ fn read_lines(heap: Global, text: &str) -> Result<Result<Vec<Entry<Money>>, Trou
         number = number.saturating_add(1);
         let (line, others) = cut_line(rest);
         match read_call(heap, line)? {
-            Some(call) => entries.push(Entry { call, answer: Answer::Untried })?,
+            Some(call) => entries.push(Entry {
+                call,
+                answer: Answer::Untried,
+            })?,
             None => return Ok(Err(Trouble::NoCall(number))),
         }
         rest = others;
@@ -84,7 +89,9 @@ pub fn read_script(heap: Global, text: &str) -> Result<Result<Script, Trouble>, 
 // The larger of a bound and that of a call, if it is a plan with a bound that can be asked for.
 fn larger_bound(bound: usize, call: Call) -> usize
     requires { ⌜ bound ≤ 1000 ⌝ }
-    ensures { λ r. ⌜ r ≤ 1000 ⌝ }
+    ensures low { λ r. ⌜ r ≤ 1000 ⌝ }
+    ensures grows { λ r. ⌜ bound ≤ r ⌝ }
+    ensures covers { λ r. ⌜ Covers r call ⌝ }
 {
     match call {
         Call::Plan(request) => {
@@ -101,7 +108,9 @@ fn larger_bound(bound: usize, call: Call) -> usize
 impl Script {
     // The largest bound of the plans of the script, as far as it can be asked for: no plan needs more rows than one with it.
     pub fn largest_bound(&self) -> usize
-        ensures { λ r. ⌜ r ≤ 1000 ⌝ }
+        ensures low { λ r. ⌜ r ≤ 1000 ⌝ }
+        ensures last { λ r. ⌜ Covers r (Plan (now (self .entry) .last)) ⌝ }
+        ensures listed { λ r. ⌜ All (λ e. Covers r (e .call)) (vec-items (now (self .entry) .entries)) ⌝ }
     {
         let mut bound = larger_bound(0, Call::Plan(self.last));
         for entry in self.entries.as_slice() {

@@ -26,7 +26,10 @@ pub fn trouble(rt: &LibcRuntime, trouble: Trouble) -> io::Result<()> {
             rt,
             "line {number} cannot be read: it is not \"close W\", \"reopen W\" or \"plan START END BOUND\"; nothing was tried"
         ),
-        Trouble::NoPlan(number) => println!(rt, "line {number}, the last, is not a plan; nothing was tried"),
+        Trouble::NoPlan(number) => println!(
+            rt,
+            "line {number}, the last, is not a plan; nothing was tried"
+        ),
         Trouble::NoLines => println!(rt, "the text has no line; nothing was tried"),
     }
 }
@@ -74,7 +77,7 @@ fn step(rt: &LibcRuntime, survey: &Sealed, step: Step) -> io::Result<()> {
 }
 
 // The plan of the last line: the steps and the total, or why there is none.
-pub fn last(
+pub fn print_last(
     rt: &LibcRuntime,
     survey: &Sealed,
     request: Request,

@@ -1,8 +1,8 @@
 // The calls of a script, tried on a job over a survey.
+use crate::print;
 use calls::script::Script;
 use charge::money::Money;
 use charge::money::MoneyCharge;
-use crate::print;
 use heap::Heap;
 use heap::HeapQueue;
 use job::replay::replay;
@@ -31,15 +31,27 @@ fn cell_rows(heap: Global, many: usize) -> Result<Vec<Row<Money>>, AllocError> {
         mark: false,
         steps: 0,
     };
-    vec![in heap; Row { cell, hint: 0, head: 0, next: 0 }; many]
+    vec![in heap; Row {
+        cell,
+        hint: 0,
+        head: 0,
+        next: 0
+    }; many]
 }
 
 fn queue_rows(heap: Global, many: usize) -> Result<Vec<Slot<Money>>, AllocError> {
-    vec![in heap; Slot { charge: Money { cents: 0 }, cell: 0, position: 0 }; many]
+    vec![in heap; Slot {
+        charge: Money { cents: 0 },
+        cell: 0,
+        position: 0
+    }; many]
 }
 
 fn run_rows(heap: Global, many: usize) -> Result<Vec<Step>, AllocError> {
-    vec![in heap; Step { way: 0, mark: false }; many]
+    vec![in heap; Step {
+        way: 0,
+        mark: false
+    }; many]
 }
 
 // Tries the calls, with rows enough for the plan that needs most, and prints what each gave.
@@ -63,6 +75,6 @@ pub fn try_script(rt: &LibcRuntime, survey: &Sealed, script: Script) -> Result<(
     for entry in entries.as_slice() {
         print::answer(rt, entry)?;
     }
-    print::last(rt, survey, last, run.as_slice(), gave)?;
+    print::print_last(rt, survey, last, run.as_slice(), gave)?;
     Ok(())
 }
