@@ -1,4 +1,5 @@
 -- The text of a call on a job, as bytes. Stands on the calls and on decimal numbers.
+use mathlib.Core.Logic.{_⊎_}
 use mathlib.Core.List.{List, [], _∷_, _++_}
 use mathlib.Core.Path.{_≡_}
 use Prim.Native.Nat.{ℕ, _<_, _^_}
@@ -38,3 +39,16 @@ Counted (Plan q) = (q .start < 2 ^ 64) × (q .end < 2 ^ 64) × (q .bound < 2 ^ 6
 -- the text is that of no call
 abbrev pub NoCall : List ℕ → Type 0
 NoCall text = (c : Call) → Counted c → text ≡ callText c → ⊥
+
+-- the lines of some calls, each with a line feed behind it
+abbrev pub linesText : List Call → List ℕ
+linesText [] = []
+linesText (c ∷ cs) = callText c ++ (10 ∷ linesText cs)
+
+-- the text is that of the calls, where the last line feed may be left out
+abbrev pub TextOf : List ℕ → List Call → Type 0
+TextOf text calls = (text ≡ linesText calls) ⊎ (text ++ (10 ∷ []) ≡ linesText calls)
+
+-- a text cut behind its first line feed, or the whole of it where it has none
+abbrev pub CutAt : List ℕ → List ℕ → List ℕ → Type 0
+CutAt text line others = (text ≡ line ++ (10 ∷ others)) ⊎ ((text ≡ line) × (others ≡ []))

@@ -54,7 +54,7 @@ pub fn answer(rt: &LibcRuntime, entry: &Entry<Money>) -> Result<(), AnyError> {
 }
 
 // The plan of the last line: its sheet, or why there is none. A line of a sheet has less than 128 bytes.
-pub fn last(
+pub fn print_last(
     rt: &LibcRuntime,
     survey: &Sealed,
     request: Request,

@@ -75,6 +75,6 @@ pub fn try_script(rt: &LibcRuntime, survey: &Sealed, script: Script) -> Result<(
     for entry in entries.as_slice() {
         print::answer(rt, entry)?;
     }
-    print::last(rt, survey, last, run.as_slice(), gave)?;
+    print::print_last(rt, survey, last, run.as_slice(), gave)?;
     Ok(())
 }
