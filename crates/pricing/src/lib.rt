@@ -5,7 +5,7 @@ ghost use Rattle.site.specs.Runs.{Goes, MarkAllowed, Run, total};
 ghost use mathlib.Core.Bool.{true};
 ghost use Rattle.site.specs.Whole.{kindOf};
 ghost use Rattle.site.specs.declared.way.Way.{Way as OpenWay};
-ghost use Rattle.pricing.specs.Stands.{Gone};
+ghost use Rattle.pricing.specs.Stands.{Gone, Reached};
 use charge::kind::Charge;
 use search::step::charge_after;
 use search::step::loss_after;
@@ -63,9 +63,9 @@ pub fn step_on<S: Site>(
     })
 }
 
-// The total of a run, or none where the steps are no lawful run for the request.
-pub fn total_of<S: Site>(site: &S, request: Request, steps: &[Step]) -> Option<S::Charge>
-    ensures { λ r. ⌜ BySome r (Run (S·Site .meaning (now (site .entry))) request (now (steps .entry)) → ⊥) (λ c. Run (S·Site .meaning (now (site .entry))) request (now (steps .entry)) × (c ≡ total (kindOf Charge·Charge) (S·Site .meaning (now (site .entry))) (now (steps .entry)))) ⌝ }
+// Where the steps lead from the start, or none where one of them may not be made.
+fn follow<S: Site>(site: &S, request: Request, steps: &[Step]) -> Option<Stand<S::Charge>>
+    ensures { λ r. ⌜ BySome r (Run (S·Site .meaning (now (site .entry))) request (now (steps .entry)) → ⊥) (λ t. Reached (kindOf Charge·Charge) (S·Site .meaning (now (site .entry))) request (now (steps .entry)) t) ⌝ }
 {
     let mut here = Stand {
         place: request.start,
@@ -75,6 +75,14 @@ pub fn total_of<S: Site>(site: &S, request: Request, steps: &[Step]) -> Option<S
     for step in steps {
         here = step_on(site, request, here, *step)?;
     }
+    Some(here)
+}
+
+// The total of a run, or none where the steps are no lawful run for the request.
+pub fn total_of<S: Site>(site: &S, request: Request, steps: &[Step]) -> Option<S::Charge>
+    ensures { λ r. ⌜ BySome r (Run (S·Site .meaning (now (site .entry))) request (now (steps .entry)) → ⊥) (λ c. Run (S·Site .meaning (now (site .entry))) request (now (steps .entry)) × (c ≡ total (kindOf Charge·Charge) (S·Site .meaning (now (site .entry))) (now (steps .entry)))) ⌝ }
+{
+    let here = follow(site, request, steps)?;
     if here.place == request.end {
         Some(here.sum)
     } else {
