@@ -5,7 +5,8 @@ ghost use lib.ListN.{length, drop};
 ghost use Rattle.std.specs.Written.{decimal};
 ghost use Rattle.bytes.specs.Lay.{placed, over};
 ghost use Rattle.sheet.specs.Decimals.{PlainDecimal};
-use bytes::put;
+ghost use Rattle.sheet.specs.Lines.{textOf};
+use crate::text::TextLine;
 use refusal::Refusal;
 
 // A number in decimal, into the front of the bytes, and how many digits it has. There is no zero in front but for the number
@@ -15,9 +16,17 @@ pub fn put_decimal(n: u64, out: &mut [u8]) -> Result<usize, Refusal>
     ensures after { λ _. ⌜ now (out .exit) ≡ over (now (out .entry)) 0 (decimal n) ⌝ }
     ensures plain { λ _. ⌜ PlainDecimal n ⌝ }
 {
-    let mut digits = [0u8; 20];
-    let first = spell(&mut digits, n);
-    put(out, 0, &digits[first..20])
+    decimal_line(n).put_into(out, 0)
+}
+
+// The digits of n, as a line of their own.
+fn decimal_line(n: u64) -> TextLine
+    ensures text { λ r. ⌜ textOf r ≡ decimal n ⌝ }
+    ensures plain { λ _. ⌜ PlainDecimal n ⌝ }
+{
+    let mut line = TextLine::new();
+    line.push_number(n);
+    line
 }
 
 // The digits of n stand at the end of twenty bytes, from the place that is answered.
