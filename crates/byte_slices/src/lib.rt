@@ -1,4 +1,6 @@
 // Pieces of text or of a file, laid into bytes that the caller lends.
+#![tactic(auto)]
+
 ghost use Rattle.std.specs.Prelude.{◌≡◌};
 ghost use Rattle.byte_slices.specs.Lay.{placed, over};
 

@@ -1,5 +1,7 @@
 // The loss card: how much signal a cable loses, in tenths of a decibel, by its letter and its metres.
 // U is unscreened cable, S screened, F fibre; they lose 220, 90 and 4 tenths per 100 metres, rounded up to whole tenths.
+#![tactic(auto)]
+
 ghost use Rattle.std.specs.Prelude.{◌≡◌, ℕ, ◌*◌, ◌<◌, ◌≤◌, IfOk, Ok};
 ghost use Rattle.card.specs.Card.{row_of, figure, ceiling, Smallest, loss_of};
 

@@ -3,6 +3,8 @@
 // It is run as "desk SURVEY CALLS", with the names of two files, as examples/house.survey and examples/house.calls. A line of
 // the text is "close W", "reopen W" or "plan START END BOUND", and the last is a plan. A text that cannot be read is told with
 // the number of its line, and then nothing is tried.
+#![tactic(auto)]
+
 use calls::script::{Script, read_script};
 use input::print_fault;
 use std::{env, fs};

@@ -1,5 +1,7 @@
 // An indexed binary heap over rows that the caller lends: a priority queue for every charge kind. The lowest charge
 // stands at the top; a cell is found by its position, without looking for it.
+#![tactic(auto)]
+
 ghost use Rattle.std.specs.Prelude.{◌≡◌, ℕ, false, length, None};
 ghost use Rattle.slots.specs.Waiting.{waiting, RowOrder};
 ghost use Rattle.heap.specs.Shape.{above, first_below};

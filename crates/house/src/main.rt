@@ -1,5 +1,7 @@
 // Plans on a house of four places, and on floor grids, with each priority queue, and prints what each case gave and,
 // where that is not what it should be, what it should have given.
+#![tactic(auto)]
+
 use crate::case::Tally;
 
 mod case;

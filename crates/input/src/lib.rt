@@ -1,4 +1,6 @@
 // What the programs share: a request in six bytes, standard input up to a number of bytes, and refusals in print.
+#![tactic(auto)]
+
 ghost use Rattle.std.specs.Prelude.{◌≡◌, ◌≤◌, length, IfOk, OnOk};
 ghost use Rattle.input.specs.Requests.{request_in};
 

@@ -1,4 +1,6 @@
 // Jobs: a site with some of its ways closed for the while, and lists of calls tried on a job.
+#![tactic(auto)]
+
 pub mod job;
 pub mod list;
 pub mod replay;

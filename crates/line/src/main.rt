@@ -1,5 +1,7 @@
 // Reads a request and a survey file from standard input, plans the least run for money, and prints its sheet, or why it is
 // refused.
+#![tactic(auto)]
+
 use charge::money::Money;
 use heap::Heap;
 use input::{print_fault, print_refusal, print_text, read_input, request_in};

@@ -2,6 +2,8 @@
 // leaves a place twice with the same loss is listed by plain recursion, which shares no code with the planner, and the least total
 // is compared with what planning gives: for money and for disturbance, with the heap and with the ordered row, over a job with
 // some ways closed, on rows that the plan before has left dirty.
+#![tactic(auto)]
+
 mod house;
 mod list;
 mod memory;

@@ -1,5 +1,7 @@
 // A row of the waiting cells in the order of their charges, over rows that the caller lends: a priority queue for every
 // charge kind. The highest charge stands first and a lowest one last, so that to take one is a single step.
+#![tactic(auto)]
+
 ghost use Rattle.std.specs.Prelude.{◌≡◌, ℕ, ◌-◌, ◌<◌, true, length, None, MatchOption};
 ghost use Rattle.queue.specs.Waits.{Taken};
 ghost use Rattle.slots.specs.Order.{ranked};

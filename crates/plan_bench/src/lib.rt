@@ -1,4 +1,6 @@
 // Planning with the heap behind a C interface, to be timed against another planner: from the first place of a square grid.
+#![tactic(auto)]
+
 use charge::money::Money;
 use grid::grid::FloorGrid;
 use heap::Heap;

@@ -1,4 +1,6 @@
 // Planning a least run over any site, for any charge kind, with any priority queue.
+#![tactic(auto)]
+
 mod expand;
 mod index;
 mod number;

@@ -2,6 +2,8 @@
 // sheet of the run, or why it is refused. The request has six bytes (start, end, bound); then the number of steps in two
 // bytes, and for each step the way in two bytes and a byte 1 for a mark or 0 for none; then the survey file. Numbers have
 // their high byte first. Steps that are cut short are refused like a file cut short at its start.
+#![tactic(auto)]
+
 ghost use Rattle.std.specs.Prelude.{◌+◌, ◌*◌, ◌≤◌, length, IfOk};
 
 use input::{print_fault, print_refusal, print_text, read_input, request_in};

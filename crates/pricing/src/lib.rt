@@ -1,4 +1,6 @@
 // Runs that were drawn by hand: whether one is lawful, and its total.
+#![tactic(auto)]
+
 ghost use Rattle.std.specs.Prelude.{◌≡◌, true, MatchOption};
 ghost use Rattle.site.specs.Runs.{Goes, MarkAllowed, Run, total};
 ghost use Rattle.site.specs.Whole.{kind_of};

@@ -1,4 +1,6 @@
 // The heap for money behind a C interface, to be timed against another heap: on charges and answers of the caller.
+#![tactic(auto)]
+
 ghost use Rattle.std.specs.Prelude.{◌≡◌, IfOk, vec_len};
 
 use charge::kind::Charge;

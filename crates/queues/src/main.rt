@@ -2,6 +2,8 @@
 // differ in charge. A line is "rows R", which starts over with R rows, or "put CELL CENTS", "take" or "empty".
 // Of several lowest cells the two may take different ones. If such a cell is put again before the others are taken, it
 // still waits in one queue only, and from then on the charges may differ; a list without such a put gives the same.
+#![tactic(auto)]
+
 use std::io;
 
 mod answer;

@@ -1,4 +1,6 @@
 // Why a call says no. Each refusal has a number of its own, which programs print; docs/REFUSALS.md has the table.
+#![tactic(auto)]
+
 ghost use Rattle.std.specs.Prelude.{◌≡◌};
 ghost use Rattle.refusal.specs.Numbers.{number};
 

@@ -1,6 +1,8 @@
 // From a draft to a site: enters a small house, seals the draft, and looks at it as a site for each charge kind. The folder
 // refused/ holds edits of this program that the compiler must refuse: a sealed draft cannot be changed, and an unsealed one
 // is no site.
+#![tactic(auto)]
+
 use refusal::Refusal;
 use site::site::Site;
 use survey::draft::Draft;

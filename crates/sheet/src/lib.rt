@@ -1,4 +1,6 @@
 // What programs print: decimal numbers, refusal lines and the sheet of a run.
+#![tactic(auto)]
+
 pub mod digits;
 pub mod lines;
 pub mod page;

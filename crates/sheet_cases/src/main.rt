@@ -1,5 +1,7 @@
 // Sheets of runs over the house on four places: a lawful one, steps that are no lawful run for each of the reasons there are,
 // requests that are refused, and bytes that are too few.
+#![tactic(auto)]
+
 mod house;
 
 use crate::house::house;

@@ -1,4 +1,6 @@
 // Sites, and runs over them.
+#![tactic(auto)]
+
 pub mod run;
 pub mod site;
 pub mod way;

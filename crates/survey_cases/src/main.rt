@@ -1,5 +1,7 @@
 // Survey files on examples: the house on four places and what becomes of it when it is cut or changed, files past each
 // limit, and some losses of the card. Expected figures stand in the file stdout.
+#![tactic(auto)]
+
 mod files;
 mod house;
 

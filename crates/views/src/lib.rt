@@ -1,4 +1,6 @@
 // Sites over a sealed survey: one for each charge kind.
+#![tactic(auto)]
+
 pub mod disturbance;
 pub mod entry;
 pub mod money;

@@ -6,5 +6,5 @@ use Rattle.byte_slices.proofs.put.Goals as goal
 pub returns : goal.returns
 returns c = record {
   answer = sym (placed_fits c.args.out.now c.args.at c.args.piece.now (omega arith));
-  after = written c.args.out.now c.args.piece.now c.copy-from-slice.new.self c.args.at _ (omega arith) c.copy-from-slice.ensures.after (omega arith);
+  after = written c.args.out.now c.args.piece.now c.copy_from_slice.new.self c.args.at _ (omega arith) c.copy_from_slice.ensures.after (omega arith);
 }

@@ -41,9 +41,9 @@ returns-then-may-top g c =
 
 pub returns : goal.returns
 returns g c =
-    let s = c.set-charge.ensures in
-    let u = c.sift-down.ensures in
+    let s = c.set_charge.ensures in
+    let u = c.sift_down.ensures in
     let rank = ranked_transitive g.C.Charge.within g.met.C.Charge.transitive g.L.Layout.turned in
-    let anew = charged_anew g.met.L.Layout.tree rank c.args.charge c.requires.order (length-map c.args.rows.now (λ r. r.charge)) c.requires.within c.requires.waits c.charge-at-old.ensures
-    s.charges s.positions c.set-charge.auto.rows u.charges u.placed u.arranged u.same in
+    let anew = charged_anew g.met.L.Layout.tree rank c.args.charge c.requires.order (length-map c.args.rows.now (λ r. r.charge)) c.requires.within c.requires.waits c.charge_at-old.ensures
+    s.charges s.positions c.set_charge.auto.rows u.charges u.placed u.arranged u.same in
     record { order = anew.0; put = anew.1 }

@@ -26,14 +26,14 @@ returns g c =
     let rank = ranked turned within in
     let rows = c.args.rows.now in
     let mid = c.exchange.new.rows in
-    let last = c.sift-down.new.rows in
+    let last = c.sift_down.new.rows in
     let len = c.args.len in
     let some : 0 < len = omega arith in
-    let u = c.sift-down.ensures in
-    let top = c.cell-at-cell.ensures in
+    let u = c.sift_down.ensures in
+    let top = c.cell_at-cell.ensures in
     let w = c.requires.within in
     let p = top_taken g.L.Layout.up g.L.Layout.down g.met.L.Layout.tree rank (length rows) len (charges rows) (cells rows) (positions rows) (cells mid) (positions mid) c.requires some c.exchange.ensures.exchanged
-    (ranked_transitive within g.met.C.Charge.transitive turned) (itself rank (ranked_total within g.met.C.Charge.total turned)) c.charge-at-charge.result (λ d. c.charge-at-charge.ensures d ∙ ap (λ m. get_or (charges rows) m d) top) (length-map rows (λ s. s.charge)) (positions last) u.same in
+    (ranked_transitive within g.met.C.Charge.transitive turned) (itself rank (ranked_total within g.met.C.Charge.total turned)) c.charge_at-charge.result (λ d. c.charge_at-charge.ensures d ∙ ap (λ m. get_or (charges rows) m d) top) (length-map rows (λ s. s.charge)) (positions last) u.same in
     let n : length mid ≡ length rows = omega arith in (
       some,
       omega (arith, c.requires.placed.cell_within 0 (omega arith)),

@@ -2,4 +2,4 @@
 use Rattle.slots.proofs.column.ahead.Goals as goal
 
 pub returns : goal.returns
-returns g c = λ d. let a = c.charge-at-a.ensures d in let b = c.charge-at-b.ensures d in cc
+returns g c = λ d. let a = c.charge_at-a.ensures d in let b = c.charge_at-b.ensures d in cc

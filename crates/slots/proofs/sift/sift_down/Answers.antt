@@ -52,6 +52,6 @@ returns g c =
     record {
       charges = inv.0;
       placed = inv.1;
-      arranged = childless g.L.Layout.up g.L.Layout.down g.met.L.Layout.tree R tr (cells c.loop-first.rows) c.args.len c.loop-first.i c.in-default.ensures inv.2;
+      arranged = childless g.L.Layout.up g.L.Layout.down g.met.L.Layout.tree R tr (cells c.loop-first.rows) c.args.len c.loop-first.i c.in_default.ensures inv.2;
       same = inv.3;
     }
