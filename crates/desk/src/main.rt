@@ -1,10 +1,9 @@
 // A desk for an estimator with a survey in hand. It reads a survey file and a text of calls, tries the calls one by one on
-// a job over the survey, for money, and prints what each gave: CLOSED or REOPENED, the sheet of a plan, or the refusal.
+// a job over the survey, for money, and prints what each gave; and then the run of the last line, which is a plan.
 // It is run as "desk SURVEY CALLS", with the names of two files, as examples/house.survey and examples/house.calls. A line of
-// the text is "close W", "reopen W" or "plan START END BOUND", and the last is a plan. A text that cannot be read is told with
-// the number of its line, and then nothing is tried.
+// the text is "close W", "reopen W" or "plan START END BOUND". A text that cannot be read is told with the number of its
+// line, and then nothing is tried.
 #![tactic(auto)]
-
 use calls::script::{Script, read_script};
 use input::print_fault;
 use std::{env, fs};
@@ -29,7 +28,7 @@ fn read_survey(rt: &HostRuntime, file: &[u8]) -> anyhow::Result<Option<Sealed>> 
 }
 
 // The script of a text, or none where it cannot be read, and then the cause is printed.
-fn read_calls(rt: &HostRuntime, text: &[u8]) -> anyhow::Result<Option<Script>> {
+fn read_calls(rt: &HostRuntime, text: &str) -> anyhow::Result<Option<Script>> {
     match read_script(rt.alloc(), text)? {
         Ok(script) => Ok(Some(script)),
         Err(trouble) => {
@@ -44,10 +43,10 @@ fn run(rt: &HostRuntime) -> anyhow::Result<()> {
     let _ = args.next();
     if let (Some(survey_name), Some(calls_name)) = (args.next(), args.next()) {
         let file = fs::read(rt, survey_name.as_str())?;
-        let text = fs::read(rt, calls_name.as_str())?;
+        let text = fs::read_to_string(rt, calls_name.as_str())?;
         if let Some(survey) = read_survey(rt, file.as_slice())? {
-            if let Some(script) = read_calls(rt, text.as_slice())? {
-                work::try_script(rt, &survey, &script)?;
+            if let Some(script) = read_calls(rt, text.as_str())? {
+                work::try_script(rt, &survey, script)?;
             }
         }
         return Ok(());

@@ -28,21 +28,26 @@ fn done(rt: &HostRuntime, call: Call) -> io::Result<()> {
     match call {
         Call::Close(_) => println!(rt; "CLOSED"),
         Call::Reopen(_) => println!(rt; "REOPENED"),
-        Call::Plan(_) => Ok(()),
+        Call::Plan(_) => println!(rt; "PLANNED"),
     }
 }
 
-// What a closing or a reopening gave. (A plan is printed by itself.)
+// What one listed call gave.
 pub fn answer(rt: &HostRuntime, entry: &Entry<Money>) -> anyhow::Result<()> {
     match entry.answer {
+        Answer::Untried => Ok(println!(rt; "UNTRIED")?),
         Answer::Done => Ok(done(rt, entry.call)?),
         Answer::Refused(refusal) => print_refusal(rt, refusal),
-        _ => Ok(()),
+        Answer::Found(planned) => {
+            let steps = planned.steps;
+            let total = planned.total.counted();
+            Ok(println!(rt; "PLANNED {steps} STEPS TOTAL {total}")?)
+        }
     }
 }
 
-// What a plan gave: the sheet with its steps and its total, or why there is none. A line of a sheet has less than 128 bytes.
-pub fn plan(
+// The plan of the last line: its sheet, or why there is none. A line of a sheet has less than 128 bytes.
+pub fn print_last(
     rt: &HostRuntime,
     survey: &Sealed,
     request: Request,

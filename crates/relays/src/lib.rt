@@ -1,6 +1,5 @@
 // Planning for money over a sealed survey: the minimum cost path problem with relays. docs/RELAYS.md states the problem.
 #![tactic(auto)]
-
 ghost use Rattle.std.specs.Prelude.{length};
 ghost use Rattle.charge.specs.Moneys.{money};
 ghost use Rattle.survey.specs.Sealing.{sealed_contents};
@@ -18,7 +17,7 @@ use site::run::{Request, Step};
 use survey::sealed::Sealed;
 use views::money::MoneyView;
 
-// A plan over a sealed survey as a site for money, which answers the problem.
+// A plan over a sealed survey as a site for money.
 fn plan_over<Q: PriorityQueue<Charge = Money>>(
     view: &MoneyView<'_>,
     request: Request,
@@ -26,8 +25,7 @@ fn plan_over<Q: PriorityQueue<Charge = Money>>(
     queue: &mut Q,
     run: &mut [Step],
 ) -> Result<Planned<Money>, Refusal>
-    ensures plan { Outcome money (money_site (sealed_contents view.now.survey.now)) request (Q.PriorityQueue.many queue.old) (Q.PriorityQueue.many queue.new) cells.old cells.new queue.old queue.new run.old run.new result }
-    ensures problem { Answered (sealed_contents view.now.survey.now) request (length cells.old) (Q.PriorityQueue.many queue.old) (length run.old) run.new result }
+    ensures { Outcome money (money_site (sealed_contents view.now.survey.now)) request (Q.PriorityQueue.many queue.old) (Q.PriorityQueue.many queue.new) cells.old cells.new queue.old queue.new run.old run.new result }
 {
     plan(view, request, cells, queue, run)
 }
@@ -43,5 +41,6 @@ pub fn plan_for_money<Q: PriorityQueue<Charge = Money>>(
     ensures plan { Outcome money (money_site (sealed_contents survey.now)) request (Q.PriorityQueue.many queue.old) (Q.PriorityQueue.many queue.new) cells.old cells.new queue.old queue.new run.old run.new result }
     ensures problem { Answered (sealed_contents survey.now) request (length cells.old) (Q.PriorityQueue.many queue.old) (length run.old) run.new result }
 {
-    plan_over(&MoneyView { survey }, request, cells, queue, run)
+    let view = MoneyView::over(survey);
+    plan_over(&view, request, cells, queue, run)
 }

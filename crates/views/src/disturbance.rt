@@ -13,7 +13,7 @@ use survey::sealed::Sealed;
 // A sealed survey as a site for disturbance: a way charges its grade, a repeater grade 0.
 #[derive(Clone, Copy)]
 pub struct DisturbanceView<'a> {
-    pub survey: &'a Sealed,
+    survey: &'a Sealed,
 }
 
 impl<'a> DisturbanceView<'a> {

@@ -13,7 +13,7 @@ use survey::sealed::Sealed;
 // A sealed survey as a site for money: a way charges its price, a repeater its own.
 #[derive(Clone, Copy)]
 pub struct MoneyView<'a> {
-    pub survey: &'a Sealed,
+    survey: &'a Sealed,
 }
 
 impl<'a> MoneyView<'a> {

@@ -55,8 +55,8 @@ impl<S> Job<S> {
 pub(crate) fn open_marks(heap: Global) -> Result<Vec<bool>, AllocError>
     ensures { IfOk result (λ v. (vec_len v ≡ 16384) × ((n : ℕ) → slice_index_or v.items n false ≡ false)) }
 {
-    let marks = vec![in heap; false; 16384]?;
-    Ok(marks)
+    let closed = vec![in heap; false; 16384]?;
+    Ok(closed)
 }
 
 impl<S: Site + Drop> Job<S> {

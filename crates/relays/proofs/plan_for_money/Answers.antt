@@ -1,0 +1,19 @@
+-- The view shows what stands in the survey, so the plan is one over the survey's site, and its outcome answers the problem.
+use Rattle.std.proofs.Common.{subst}
+use Rattle.charge.specs.Moneys.{money}
+use Rattle.survey.specs.Contents.{Contents}
+use Rattle.survey.specs.Sealing.{sealed_contents}
+use Rattle.views.specs.SurveySite.{money_site}
+use Rattle.planner.specs.Outcome.{Outcome}
+use Rattle.relays.proofs.Solving.{outcome_answers}
+use Rattle.relays.proofs.plan_for_money.Goals as goal
+
+pub returns : goal.returns
+returns g c =
+    let many = g.Q.PriorityQueue.many in
+    let over : Outcome money (money_site (sealed_contents c.args.survey.now)) c.args.request (many c.args.queue.now) (many c.plan-over.new.queue) c.args.cells.now c.plan-over.new.cells c.args.queue.now c.plan-over.new.queue c.args.run.now c.plan-over.new.run c.plan-over.result =
+    subst (λ (s : Contents). Outcome money (money_site s) c.args.request (many c.args.queue.now) (many c.plan-over.new.queue) c.args.cells.now c.plan-over.new.cells c.args.queue.now c.plan-over.new.queue c.args.run.now c.plan-over.new.run c.plan-over.result) c.over-view.ensures c.plan-over.ensures in
+    record {
+      plan = over;
+      problem = outcome_answers c.args.survey.now c.args.request _ _ _ _ _ _ _ _ _ over;
+    }
