@@ -4,4 +4,4 @@ use Rattle.pricing.proofs.Drawn.{Followed}
 use Rattle.pricing.proofs.follow.Given as goal
 
 abbrev pub invariant-loop-step : goal.invariant-loop-step
-invariant-loop-step g l = Followed (kind_of g.Charge.Charge) (g.S.Site.meaning l.site) l.request l.steps l.here (drop l.step-index l.steps)
+invariant-loop-step g l = Followed (kind_of g.S.Charge.Charge) (g.S.Site.meaning l.site) l.request l.steps l.here (drop l.step-index l.steps)

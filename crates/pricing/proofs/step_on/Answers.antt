@@ -4,9 +4,9 @@ use Rattle.pricing.proofs.step_on.Goals as goal
 
 pub returns : goal.returns
 returns g c = record {
-  over = c.in-ok-way.way;
+  over = c.in_ok-way.way;
   goes = record { opens = search rules; leaves = search rules; arrives = search rules; marks = search rules };
   place = refl;
-  loss = c.loss-after-loss.ensures;
-  sum = c.charge-after-sum.ensures;
+  loss = c.loss_after-loss.ensures;
+  sum = c.charge_after-sum.ensures;
 }

@@ -11,8 +11,8 @@ use Rattle.relays.proofs.plan_for_money.Goals as goal
 pub returns : goal.returns
 returns g c =
     let many = g.Q.PriorityQueue.many in
-    let over : Outcome money (money_site (sealed_contents c.args.survey.now)) c.args.request (many c.args.queue.now) (many c.plan-over.new.queue) c.args.cells.now c.plan-over.new.cells c.args.queue.now c.plan-over.new.queue c.args.run.now c.plan-over.new.run c.plan-over.result =
-    subst (λ (s : Contents). Outcome money (money_site s) c.args.request (many c.args.queue.now) (many c.plan-over.new.queue) c.args.cells.now c.plan-over.new.cells c.args.queue.now c.plan-over.new.queue c.args.run.now c.plan-over.new.run c.plan-over.result) c.over-view.ensures c.plan-over.ensures in
+    let over : Outcome money (money_site (sealed_contents c.args.survey.now)) c.args.request (many c.args.queue.now) (many c.plan_over.new.queue) c.args.cells.now c.plan_over.new.cells c.args.queue.now c.plan_over.new.queue c.args.run.now c.plan_over.new.run c.plan_over.result =
+    subst (λ (s : Contents). Outcome money (money_site s) c.args.request (many c.args.queue.now) (many c.plan_over.new.queue) c.args.cells.now c.plan_over.new.cells c.args.queue.now c.plan_over.new.queue c.args.run.now c.plan_over.new.run c.plan_over.result) c.over-view.ensures c.plan_over.ensures in
     record {
       plan = over;
       problem = outcome_answers c.args.survey.now c.args.request _ _ _ _ _ _ _ _ _ over;

@@ -19,8 +19,8 @@ loop-at-preserved g c =
     let inv = c.loop-at.invariant in
     let at = c.loop-at.at in
     let es = c.loop-at.entries in
-    let new : Entry g.row.S-Charge.Denot = record { call = c.call-at-call.result; answer = c.attempt-answer.result } in
-    let wrote : c.set-entry.new.entries ≡ set es at new = c.set-entry.ensures in
+    let new : Entry g.row.S-Charge.Denot = record { call = c.call_at-call.result; answer = c.attempt-answer.result } in
+    let wrote : c.set_entry.new.entries ≡ set es at new = c.set_entry.ensures in
     let h = lent c.args.cells.now c.args.queue.now c.args.run.now in
     let mid = lent c.loop-at.cells c.loop-at.queue c.loop-at.run in
     let h' = lent c.attempt-answer.new.cells c.attempt-answer.new.queue c.attempt-answer.new.run in
@@ -28,7 +28,7 @@ loop-at-preserved g c =
     let tried = subst (λ (s : g.row.S.Denot). Tried k many (meaning s) closed mid h' new.call new.answer) inv.1 c.attempt-answer.ensures.tried in
     let marks = subst (λ (s : g.row.S.Denot). (n : ℕ) → closed_by c.attempt-answer.new.job n ≡ after_call (meaning s).ways closed new.call n) inv.1 c.attempt-answer.ensures.book in
     let next = tried_next k many m (closed_by c.args.job.now) h mid h' es at new closed (closed_by c.attempt-answer.new.job) (omega arith) inv.2 inv.3 tried marks in
-    let calls = ap calls_of wrote ∙ map-set (λ e. e.call) es at new ∙ set_same (calls_of es) at new.call c.call-at-call.ensures ∙ inv.0 in (
+    let calls = ap calls_of wrote ∙ map-set (λ e. e.call) es at new ∙ set_same (calls_of es) at new.call c.call_at-call.ensures ∙ inv.0 in (
       calls,
       c.attempt-answer.ensures.below ∙ inv.1,
       subst (λ (z : List (Entry g.row.S-Charge.Denot)). closed_by c.attempt-answer.new.job ≡ after_calls m.ways (closed_by c.args.job.now) (calls_of (take (at + 1) z))) (sym wrote) next.0,

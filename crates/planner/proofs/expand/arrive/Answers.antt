@@ -17,14 +17,14 @@ use Rattle.search.proofs.Trails.{cell_place, cell_loss, after_low}
 use Rattle.planner.proofs.expand.arrive.Given as given
 use Rattle.planner.proofs.expand.arrive.Goals as goal
 
-laws_of : (g : given.Over) → Laws (kind_of g.Charge.Charge)
+laws_of : (g : given.Over) → Laws (kind_of g.S.Charge.Charge)
 laws_of g =
-    let met = g.met.Charge.Charge in
+    let met = g.met.S.Charge.Charge in
     record { total = met.total; transitive = met.transitive; monotone = met.monotone; rising = met.rising }
 
-pub cell-of-target-requires : goal.cell-of-target-requires
-cell-of-target-requires g c =
-    let lost : c.loss-after-loss.result ≡ loss_after c.args.step.mark (loss_of c.args.request c.args.at + c.args.w.loss) = c.loss-after-loss.ensures ∙ ap (λ (z : ℕ). loss_after c.args.step.mark (z + c.args.w.loss)) c.loss-of.ensures.same in
+pub cell_of-target-requires : goal.cell_of-target-requires
+cell_of-target-requires g c =
+    let lost : c.loss_after-loss.result ≡ loss_after c.args.step.mark (loss_of c.args.request c.args.at + c.args.w.loss) = c.loss_after-loss.ensures ∙ ap (λ (z : ℕ). loss_after c.args.step.mark (z + c.args.w.loss)) c.loss_of.ensures.same in
     let low = after_low c.args.request c.args.step.mark _ _ c.requires.goes.arrives lost in
     let b = g.S.Site.bounded c.args.site.now in
     record {
@@ -33,8 +33,8 @@ cell-of-target-requires g c =
       loss = low;
     }
 
-pub overflow-add-here : goal.overflow-add-here
-overflow-add-here g c =
+pub overflow_add-here : goal.overflow_add-here
+overflow_add-here g c =
     let f = steps_few _ _ _ _ _ _ _ c.requires.turn in
     let n = count_most ((cells_of c.args.cells.now)) in
     let size = length-map c.args.cells.now (λ r. r.cell) in
@@ -46,24 +46,24 @@ offer-requires g c =
     let b = g.S.Site.bounded c.args.site.now in
     let m = g.S.Site.meaning c.args.site.now in
     let r = c.requires.room in
-    let lost : c.loss-after-loss.result ≡ loss_after c.args.step.mark (loss_of c.args.request c.args.at + c.args.w.loss) = c.loss-after-loss.ensures ∙ ap (λ (z : ℕ). loss_after c.args.step.mark (z + c.args.w.loss)) c.loss-of.ensures.same in
+    let lost : c.loss_after-loss.result ≡ loss_after c.args.step.mark (loss_of c.args.request c.args.at + c.args.w.loss) = c.loss_after-loss.ensures ∙ ap (λ (z : ℕ). loss_after c.args.step.mark (z + c.args.w.loss)) c.loss_of.ensures.same in
     let low = after_low c.args.request c.args.step.mark _ _ c.requires.goes.arrives lost in
-    let h : c.loss-after-loss.result < c.args.request.bound + 1 = omega (arith, low) in
-    let lt : c.args.w.to * (c.args.request.bound + 1) + c.loss-after-loss.result < m.places * (c.args.request.bound + 1) = digits_lt (b.to_in _ _ c.requires.goes.opens) h in
-    let same = c.cell-of-target.ensures in
+    let h : c.loss_after-loss.result < c.args.request.bound + 1 = omega (arith, low) in
+    let lt : c.args.w.to * (c.args.request.bound + 1) + c.loss_after-loss.result < m.places * (c.args.request.bound + 1) = digits_lt (b.to_in _ _ c.requires.goes.opens) h in
+    let same = c.cell_of-target.ensures in
     record {
       inside = omega (arith, r.rows_suffice);
       room = omega (arith, r.queue_suffices);
       ordered = c.requires.ordered;
       agree = c.requires.turn.books.agree;
       waiting = refl;
-      low = λ e q. laws.transitive e c.args.here.charge _ (c.requires.turn.expanding.below c.cell-of-target.result e q)
-          (subst (λ z. g.Charge.Charge.within c.args.here.charge z ≡ true) (sym c.charge-after-charge.ensures) (step_rises (kind_of g.Charge.Charge) laws m c.args.here.charge c.args.step.mark (Some c.args.w)));
+      low = λ e q. laws.transitive e c.args.here.charge _ (c.requires.turn.expanding.below c.cell_of-target.result e q)
+          (subst (λ z. g.S.Charge.Charge.within c.args.here.charge z ≡ true) (sym c.charge_after-charge.ensures) (step_rises (kind_of g.S.Charge.Charge) laws m c.args.here.charge c.args.step.mark (Some c.args.w)));
     }
 
 pub returns : goal.returns
 returns g c =
-    let k = kind_of g.Charge.Charge in
+    let k = kind_of g.S.Charge.Charge in
     let laws = laws_of g in
     let m = g.S.Site.meaning c.args.site.now in
     let b = g.S.Site.bounded c.args.site.now in
@@ -72,16 +72,16 @@ returns g c =
     let rows' = (cells_of c.offer.new.cells) in
     let waits = g.Q.PriorityQueue.waits c.args.queue.now in
     let waits' = g.Q.PriorityQueue.waits c.offer.new.queue in
-    let at = c.cell-of-target.result in
-    let new : Cell g.row.S-Charge.Denot = record { charge = c.charge-after-charge.result; state = Waiting; from = c.args.at; way = c.args.step.way; mark = c.args.step.mark; steps = c.args.here.steps + 1 } in
-    let lost : c.loss-after-loss.result ≡ loss_after c.args.step.mark (loss_of c.args.request c.args.at + c.args.w.loss) = c.loss-after-loss.ensures ∙ ap (λ (z : ℕ). loss_after c.args.step.mark (z + c.args.w.loss)) c.loss-of.ensures.same in
+    let at = c.cell_of-target.result in
+    let new : Cell g.row.S-Charge.Denot = record { charge = c.charge_after-charge.result; state = Waiting; from = c.args.at; way = c.args.step.way; mark = c.args.step.mark; steps = c.args.here.steps + 1 } in
+    let lost : c.loss_after-loss.result ≡ loss_after c.args.step.mark (loss_of c.args.request c.args.at + c.args.w.loss) = c.loss_after-loss.ensures ∙ ap (λ (z : ℕ). loss_after c.args.step.mark (z + c.args.w.loss)) c.loss_of.ensures.same in
     let low = after_low c.args.request c.args.step.mark _ _ c.requires.goes.arrives lost in
-    let h : c.loss-after-loss.result < c.args.request.bound + 1 = omega (arith, low) in
-    let lt : c.args.w.to * (c.args.request.bound + 1) + c.loss-after-loss.result < m.places * (c.args.request.bound + 1) = digits_lt (b.to_in _ _ c.requires.goes.opens) h in
+    let h : c.loss_after-loss.result < c.args.request.bound + 1 = omega (arith, low) in
+    let lt : c.args.w.to * (c.args.request.bound + 1) + c.loss_after-loss.result < m.places * (c.args.request.bound + 1) = digits_lt (b.to_in _ _ c.requires.goes.opens) h in
     let size = length-map c.args.cells.now (λ r. r.cell) in
-    let inside : at < length rows = omega (arith, c.cell-of-target.ensures, c.requires.room.rows_suffice) in
-    let place = cell_place c.args.request c.args.w.to _ at low c.cell-of-target.ensures in
-    let loss = cell_loss c.args.request c.args.w.to _ at low c.cell-of-target.ensures ∙ lost in
+    let inside : at < length rows = omega (arith, c.cell_of-target.ensures, c.requires.room.rows_suffice) in
+    let place = cell_place c.args.request c.args.w.to _ at low c.cell_of-target.ensures in
+    let loss = cell_loss c.args.request c.args.w.to _ at low c.cell_of-target.ensures ∙ lost in
     let next : Next k m c.args.request rows at new = record {
       before = c.args.here;
       row = turn.row;
@@ -90,10 +90,10 @@ returns g c =
       goes = c.requires.goes;
       place = place;
       loss = loss;
-      charge = c.charge-after-charge.ensures;
+      charge = c.charge_after-charge.ensures;
       steps = refl;
     } in
-    let up : g.Charge.Charge.within c.args.here.charge new.charge ≡ true = subst (λ z. g.Charge.Charge.within c.args.here.charge z ≡ true) (sym c.charge-after-charge.ensures) (step_rises k laws m c.args.here.charge c.args.step.mark (Some c.args.w)) in
+    let up : g.S.Charge.Charge.within c.args.here.charge new.charge ≡ true = subst (λ z. g.S.Charge.Charge.within c.args.here.charge z ≡ true) (sym c.charge_after-charge.ensures) (step_rises k laws m c.args.here.charge c.args.step.mark (Some c.args.w)) in
     let o = c.offer.ensures.offered in
     record {
       ordered = c.offer.ensures.ordered;
@@ -102,6 +102,6 @@ returns g c =
       count = offer_count k laws m c.args.request rows rows' waits waits' at new inside refl o;
       turn = offer_turn k laws m c.args.request rows rows' waits waits' at new inside refl o c.args.at c.args.here turn up next (steps_few _ _ _ _ _ _ _ turn);
       keeps = λ p l sum h. offer_covered_on k laws m c.args.request rows rows' waits waits' at new inside refl o p l sum h;
-      covered = subst (λ z. Covered k c.args.request (done_in rows') waits' c.args.w.to (loss_after c.args.step.mark (loss_of c.args.request c.args.at + c.args.w.loss)) z) c.charge-after-charge.ensures
+      covered = subst (λ z. Covered k c.args.request (done_in rows') waits' c.args.w.to (loss_after c.args.step.mark (loss_of c.args.request c.args.at + c.args.w.loss)) z) c.charge_after-charge.ensures
           (offer_covered_at k laws m c.args.request rows rows' waits waits' at new inside refl o c.args.w.to _ place loss);
     }

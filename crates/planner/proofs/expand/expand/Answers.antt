@@ -15,31 +15,31 @@ use Rattle.search.proofs.Walks.{idle_offered, walked}
 use Rattle.planner.proofs.expand.expand.Given as given
 use Rattle.planner.proofs.expand.expand.Goals as goal
 
-laws_of : (g : given.Over) → Laws (kind_of g.Charge.Charge)
+laws_of : (g : given.Over) → Laws (kind_of g.S.Charge.Charge)
 laws_of g =
-    let met = g.met.Charge.Charge in
+    let met = g.met.S.Charge.Charge in
     record { total = met.total; transitive = met.transitive; monotone = met.monotone; rising = met.rising }
 
 pub loop-n-preserved : goal.loop-n-preserved
 loop-n-preserved g c =
     let inv = c.loop-n.invariant in
-    let e = c.offer-way.ensures in
+    let e = c.offer_way.ensures in
     let m = g.S.Site.meaning c.args.site.now in
-    let rows = cells_of c.offer-way.new.cells in
-    let waits = g.Q.PriorityQueue.waits c.offer-way.new.queue in (
+    let rows = cells_of c.offer_way.new.cells in
+    let waits = g.Q.PriorityQueue.waits c.offer_way.new.queue in (
       e.ordered,
       e.many ∙ inv.1,
       same_index inv.2 e.index,
       e.count ∙ inv.3,
       e.turn,
       λ i a b. elim (cases_eq i c.loop-n.n) [
-        | inl q ↦ subst (λ (z : ℕ). Offered (kind_of g.Charge.Charge) m c.args.request (done_in rows) waits c.args.at c.args.here.charge z) (sym q) e.offered
+        | inl q ↦ subst (λ (z : ℕ). Offered (kind_of g.S.Charge.Charge) m c.args.request (done_in rows) waits c.args.at c.args.here.charge z) (sym q) e.offered
         | inr ne ↦ (λ mark w v. e.keeps _ _ _ (inv.5 i a (omega arith) mark w v))
       ],
     )
 
-pub head-at-after-requires : goal.head-at-after-requires
-head-at-after-requires g c = omega (arith, place_below c.args.request c.args.at, c.place-of.ensures, c.requires.inside, c.loop-n.auto.cells)
+pub head_at-after-requires : goal.head_at-after-requires
+head_at-after-requires g c = omega (arith, place_below c.args.request c.args.at, c.place_of.ensures, c.requires.inside, c.loop-n.auto.cells)
 
 pub loop-after-init : goal.loop-after-init
 loop-after-init g c =
@@ -48,8 +48,8 @@ loop-after-init g c =
     let limit = c.smaller-limit.result in
     let p = place_of c.args.request c.args.at in
     let lim : min m.ways (length c.args.cells.now) ≡ limit = sym (c.smaller-limit.ensures ∙ ap (λ (z : ℕ). min z (length c.args.cells.now)) c.ways-ways.ensures) in
-    let e : c.head-at-after.result ≡ get_or (heads_of c.args.cells.now) p 0 = c.head-at-after.ensures ∙ ap (λ (z : ℕ). get_or (heads_of c.loop-n.cells) z 0) c.place-of.ensures ∙ ap (λ (z : List ℕ). get_or z p 0) inv.2.heads in
-    let l : Largest m p limit c.head-at-after.result = subst (λ (z : ℕ). Largest m p z c.head-at-after.result) lim (subst (λ (z : ℕ). Largest m p (min m.ways (length c.args.cells.now)) z) (sym e) (c.requires.indexed.of_place p)) in (
+    let e : c.head_at-after.result ≡ get_or (heads_of c.args.cells.now) p 0 = c.head_at-after.ensures ∙ ap (λ (z : ℕ). get_or (heads_of c.loop-n.cells) z 0) c.place_of.ensures ∙ ap (λ (z : List ℕ). get_or z p 0) inv.2.heads in
+    let l : Largest m p limit c.head_at-after.result = subst (λ (z : ℕ). Largest m p z c.head_at-after.result) lim (subst (λ (z : ℕ). Largest m p (min m.ways (length c.args.cells.now)) z) (sym e) (c.requires.indexed.of_place p)) in (
       inv.0,
       refl,
       record { heads = refl; nexts = refl },
@@ -61,8 +61,8 @@ loop-after-init g c =
     )
 
 -- the link behind the way that was offered: below it stands the next smaller way that leaves the place
-link : (g : given.Over) (c : goal.After-next-at-after g)
-    → Largest (g.S.Site.meaning c.args.site.now) (place_of c.args.request c.args.at) (c.loop-after.after - 1) c.next-at-after.result
+link : (g : given.Over) (c : goal.After-next_at-after g)
+    → Largest (g.S.Site.meaning c.args.site.now) (place_of c.args.request c.args.at) (c.loop-after.after - 1) c.next_at-after.result
 link g c =
     let m = g.S.Site.meaning c.args.site.now in
     let inv = c.loop-after.invariant in
@@ -71,7 +71,7 @@ link g c =
     let lim : c.smaller-limit.result ≡ min m.ways (length c.args.cells.now) = c.smaller-limit.ensures ∙ ap (λ (z : ℕ). min z (length c.args.cells.now)) c.ways-ways.ensures in
     let pos : 0 < c.loop-after.after = omega arith in
     let under : j < min m.ways (length c.args.cells.now) = (let h = inv.6 in omega arith) in
-    let e : c.next-at-after.result ≡ get_or (nexts_of c.args.cells.now) j 0 = c.next-at-after.ensures ∙ ap (λ (z : List ℕ). get_or z j 0) (c.offer-way-in-loop-after.ensures.index.nexts ∙ inv.2.nexts ∙ c.loop-n.invariant.2.nexts) in
+    let e : c.next_at-after.result ≡ get_or (nexts_of c.args.cells.now) j 0 = c.next_at-after.ensures ∙ ap (λ (z : List ℕ). get_or z j 0) (c.offer_way-in-loop-after.ensures.index.nexts ∙ inv.2.nexts ∙ c.loop-n.invariant.2.nexts) in
     subst (λ (z : ℕ). Largest m p j z) (sym e) (c.requires.indexed.of_way j p under (inv.7 pos))
 
 pub loop-after-smaller : goal.loop-after-smaller
@@ -80,7 +80,7 @@ loop-after-smaller g c = let below = (link g c).below in omega arith
 pub loop-after-preserved : goal.loop-after-preserved
 loop-after-preserved g c =
     let inv = c.loop-after.invariant in
-    let o = c.offer-way-in-loop-after.ensures in
+    let o = c.offer_way-in-loop-after.ensures in
     let l = link g c in
     let pos : 0 < c.loop-after.after = omega arith in
     let below = l.below in (

@@ -15,8 +15,8 @@ invariant-loop-n g l =
     × (g.Q.PriorityQueue.many l.queue ≡ g.Q.PriorityQueue.many l.initial.queue)
     × SameIndex l.initial.cells l.cells
     × (settled_count (cells_of l.cells) ≡ settled_count (cells_of l.initial.cells))
-    × Turn (kind_of g.Charge.Charge) (g.S.Site.meaning l.site) l.request (cells_of l.cells) (g.Q.PriorityQueue.waits l.queue) l.at l.here
-    × ((i : ℕ) → l.limit ≤ i → i < l.n → Offered (kind_of g.Charge.Charge) (g.S.Site.meaning l.site) l.request (done_in (cells_of l.cells)) (g.Q.PriorityQueue.waits l.queue) l.at l.here.charge i)
+    × Turn (kind_of g.S.Charge.Charge) (g.S.Site.meaning l.site) l.request (cells_of l.cells) (g.Q.PriorityQueue.waits l.queue) l.at l.here
+    × ((i : ℕ) → l.limit ≤ i → i < l.n → Offered (kind_of g.S.Charge.Charge) (g.S.Site.meaning l.site) l.request (done_in (cells_of l.cells)) (g.Q.PriorityQueue.waits l.queue) l.at l.here.charge i)
 
 abbrev pub invariant-loop-after : goal.invariant-loop-after
 invariant-loop-after g l =
@@ -24,8 +24,8 @@ invariant-loop-after g l =
     × (g.Q.PriorityQueue.many l.queue ≡ g.Q.PriorityQueue.many l.initial.queue)
     × SameIndex l.initial.cells l.cells
     × (settled_count (cells_of l.cells) ≡ settled_count (cells_of l.initial.cells))
-    × Turn (kind_of g.Charge.Charge) (g.S.Site.meaning l.site) l.request (cells_of l.cells) (g.Q.PriorityQueue.waits l.queue) l.at l.here
-    × ((i : ℕ) → l.after ≤ i → i < l.ways → Offered (kind_of g.Charge.Charge) (g.S.Site.meaning l.site) l.request (done_in (cells_of l.cells)) (g.Q.PriorityQueue.waits l.queue) l.at l.here.charge i)
+    × Turn (kind_of g.S.Charge.Charge) (g.S.Site.meaning l.site) l.request (cells_of l.cells) (g.Q.PriorityQueue.waits l.queue) l.at l.here
+    × ((i : ℕ) → l.after ≤ i → i < l.ways → Offered (kind_of g.S.Charge.Charge) (g.S.Site.meaning l.site) l.request (done_in (cells_of l.cells)) (g.Q.PriorityQueue.waits l.queue) l.at l.here.charge i)
     × (l.after ≤ l.limit)
     × (0 < l.after → Leaves (g.S.Site.meaning l.site) (place_of l.request l.at) (l.after - 1))
 

@@ -8,26 +8,26 @@ use Rattle.search.proofs.Turns.{none_offered, away_offered, far_offered, both_of
 use Rattle.planner.proofs.expand.offer_way.Given as given
 use Rattle.planner.proofs.expand.offer_way.Goals as goal
 
-laws_of : (g : given.Over) → Laws (kind_of g.Charge.Charge)
+laws_of : (g : given.Over) → Laws (kind_of g.S.Charge.Charge)
 laws_of g =
-    let met = g.met.Charge.Charge in
+    let met = g.met.S.Charge.Charge in
     record { total = met.total; transitive = met.transitive; monotone = met.monotone; rising = met.rising }
 
-pub returns-then-w-place-of : goal.returns-then-w-place-of
-returns-then-w-place-of g c = record {
+pub returns-then-w-place_of : goal.returns-then-w-place_of
+returns-then-w-place_of g c = record {
   ordered = c.requires.ordered;
   many = refl;
   index = record { heads = refl; nexts = refl };
   count = refl;
   turn = c.requires.turn;
   keeps = λ p l sum h. h;
-  offered = away_offered _ (laws_of g) _ _ _ _ _ _ _ c.in-Some.w (sym c.in-Some.ensures) (λ e. c.if-w-place-of.true (e ∙ sym c.place-of.ensures));
+  offered = away_offered _ (laws_of g) _ _ _ _ _ _ _ c.in-Some.w (sym c.in-Some.ensures) (λ e. c.if-w-place_of.true (e ∙ sym c.place_of.ensures));
 }
 
-pub returns-then-not-within-bound : goal.returns-then-not-within-bound
-returns-then-not-within-bound g c =
-    let far = c.within_bound.ensures.no c.if-not-within-bound.true in
-    let lost = c.loss-of.ensures.same in
+pub returns-then-not-within_bound : goal.returns-then-not-within_bound
+returns-then-not-within_bound g c =
+    let far = c.within_bound.ensures.no c.if-not-within_bound.true in
+    let lost = c.loss_of.ensures.same in
     record {
       ordered = c.requires.ordered;
       many = refl;
@@ -66,15 +66,15 @@ returns-else-markable g c =
           (λ h. absurd (let e = c.if-markable.ensures.back h in let z : ◌≡◌ {A = ℕ} 0 1 = cc in omega arith));
     }
 
-pub returns-in-default : goal.returns-in-default
-returns-in-default g c = record {
+pub returns-in_default : goal.returns-in_default
+returns-in_default g c = record {
   ordered = c.requires.ordered;
   many = refl;
   index = record { heads = refl; nexts = refl };
   count = refl;
   turn = c.requires.turn;
   keeps = λ p l sum h. h;
-  offered = none_offered _ (laws_of g) _ _ _ _ _ _ _ (sym c.in-default.ensures);
+  offered = none_offered _ (laws_of g) _ _ _ _ _ _ _ (sym c.in_default.ensures);
 }
 
 pub arrive-requires-then-markable : goal.arrive-requires-then-markable
@@ -84,8 +84,8 @@ arrive-requires-then-markable g c = record {
   turn = c.arrive.ensures.turn;
   goes = record {
     opens = sym c.in-Some.ensures;
-    leaves = c.if-w-place-of.false ∙ c.place-of.ensures;
-    arrives = (let h = c.within_bound.ensures.yes c.if-not-within-bound.false in let e = c.loss-of.ensures.same in omega arith);
+    leaves = c.if-w-place_of.false ∙ c.place_of.ensures;
+    arrives = (let h = c.within_bound.ensures.yes c.if-not-within_bound.false in let e = c.loss_of.ensures.same in omega arith);
     marks = c.if-markable.ensures.yes refl;
   };
 }

@@ -22,8 +22,8 @@ returns-then-better g c =
     record {
       ordered = c.enter.ensures.ordered;
       many = c.enter.ensures.many;
-      index = c.set-row.ensures.index;
-      offered = subst (λ rs. Offering (kind_of g.C.Charge) (cells_of c.args.cells.now) rs (g.Q.PriorityQueue.waits c.args.queue.now) (g.Q.PriorityQueue.waits c.enter.new.queue) c.args.at c.args.new) (sym c.set-row.ensures.cells) (offered_over _ laws ((cells_of c.args.cells.now)) _ _ c.args.at c.row-at-old.result c.args.new inside c.row-at-old.ensures c.requires.agree c.requires.waiting (sym c.if-better.ensures)
+      index = c.set_row.ensures.index;
+      offered = subst (λ rs. Offering (kind_of g.C.Charge) (cells_of c.args.cells.now) rs (g.Q.PriorityQueue.waits c.args.queue.now) (g.Q.PriorityQueue.waits c.enter.new.queue) c.args.at c.args.new) (sym c.set_row.ensures.cells) (offered_over _ laws ((cells_of c.args.cells.now)) _ _ c.args.at c.row_at-old.result c.args.new inside c.row_at-old.ensures c.requires.agree c.requires.waiting (sym c.if-better.ensures)
           c.enter.ensures.put);
     }
 
@@ -37,5 +37,5 @@ returns-else-better g c =
       ordered = c.requires.ordered;
       many = refl;
       index = record { heads = refl; nexts = refl };
-      offered = offered_none _ laws ((cells_of c.args.cells.now)) waits waits c.args.at c.row-at-old.result c.args.new inside c.row-at-old.ensures c.requires.agree c.requires.waiting (sym c.if-better.ensures) c.requires.low;
+      offered = offered_none _ laws ((cells_of c.args.cells.now)) waits waits c.args.at c.row_at-old.result c.args.new inside c.row_at-old.ensures c.requires.agree c.requires.waiting (sym c.if-better.ensures) c.requires.low;
     }

@@ -10,9 +10,9 @@ use Rattle.search.proofs.Turns.{taken_inside, taken_short, taken_found, settle_t
 use Rattle.planner.proofs.seek.seek.Given as given
 use Rattle.planner.proofs.seek.seek.Goals as goal
 
-laws_of : (g : given.Over) → Laws (kind_of g.Charge.Charge)
+laws_of : (g : given.Over) → Laws (kind_of g.S.Charge.Charge)
 laws_of g =
-    let met = g.met.Charge.Charge in
+    let met = g.met.S.Charge.Charge in
     record { total = met.total; transitive = met.transitive; monotone = met.monotone; rising = met.rising }
 
 pub returns-then-ends : goal.returns-then-ends
@@ -63,7 +63,7 @@ loop-at-smaller g c =
 pub returns : goal.returns
 returns g c =
     let inv = c.loop-at.invariant in
-    let gave = c.in-default.ensures in
+    let gave = c.in_default.ensures in
     record { many = gave.many ∙ inv.1; ordered = gave.ordered; answer = no_run _ (laws_of g) _ _ _ _ inv.3 gave.answer.0 }
 
 pub loop-at-preserved : goal.loop-at-preserved

@@ -11,8 +11,8 @@ invariant-loop-at g l =
     g.Q.PriorityQueue.ordered l.queue
     × (g.Q.PriorityQueue.many l.queue ≡ g.Q.PriorityQueue.many l.initial.queue)
     × SameIndex l.initial.cells l.cells
-    × Searching (kind_of g.Charge.Charge) (g.S.Site.meaning l.site) l.request (done_in (cells_of l.cells)) (g.Q.PriorityQueue.waits l.queue)
-    × Books (kind_of g.Charge.Charge) (g.S.Site.meaning l.site) l.request (cells_of l.cells) (g.Q.PriorityQueue.waits l.queue)
+    × Searching (kind_of g.S.Charge.Charge) (g.S.Site.meaning l.site) l.request (done_in (cells_of l.cells)) (g.Q.PriorityQueue.waits l.queue)
+    × Books (kind_of g.S.Charge.Charge) (g.S.Site.meaning l.site) l.request (cells_of l.cells) (g.Q.PriorityQueue.waits l.queue)
 
 abbrev pub decreases-loop-at : goal.decreases-loop-at
 decreases-loop-at g l = length l.initial.cells - settled_count (cells_of l.cells)

@@ -16,7 +16,7 @@ invariant-loop-left g l =
     × (slice_get (cells_of l.cells) l.at ≡ Some r)
     × (r.state ≢ Unseen)
     × (r.steps ≡ l.left)
-    × Trail (kind_of g.Charge.Charge) (g.S.Site.meaning l.site) l.request (cells_of l.cells) l.at r (drop l.left (take l.end.steps l.run)) l.end.charge)
+    × Trail (kind_of g.S.Charge.Charge) (g.S.Site.meaning l.site) l.request (cells_of l.cells) l.at r (drop l.left (take l.end.steps l.run)) l.end.charge)
 
 abbrev pub decreases-loop-left : goal.decreases-loop-left
 decreases-loop-left g l = l.left

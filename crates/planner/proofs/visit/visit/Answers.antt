@@ -9,17 +9,17 @@ use Rattle.search.proofs.Trails.{place_below}
 use Rattle.planner.proofs.visit.visit.Given as given
 use Rattle.planner.proofs.visit.visit.Goals as goal
 
-laws_of : (g : given.Over) → Laws (kind_of g.Charge.Charge)
+laws_of : (g : given.Over) → Laws (kind_of g.S.Charge.Charge)
 laws_of g =
-    let met = g.met.Charge.Charge in
+    let met = g.met.S.Charge.Charge in
     record { total = met.total; transitive = met.transitive; monotone = met.monotone; rising = met.rising }
 
-pub set-hint-requires : goal.set-hint-requires
-set-hint-requires g c = omega (arith, place_below c.args.request c.args.at, c.place-of-place.ensures, c.requires.inside)
+pub set_hint-requires : goal.set_hint-requires
+set_hint-requires g c = omega (arith, place_below c.args.request c.args.at, c.place_of-place.ensures, c.requires.inside)
 
 pub returns-then-dominated : goal.returns-then-dominated
 returns-then-dominated g c =
-    let k = kind_of g.Charge.Charge in
+    let k = kind_of g.S.Charge.Charge in
     let laws = laws_of g in
     let m = g.S.Site.meaning c.args.site.now in
     let rows = cells_of c.args.cells.now in
