@@ -12,7 +12,7 @@ use Rattle.job.proofs.replay.replay_with.Goals as goal
 
 pub returns : goal.returns
 returns g c =
-    let k = kind_of g.row.S-Charge-Charge in
+    let k = kind_of g.S.Charge.Charge in
     let many = g.Q.PriorityQueue.many in
     let meaning = g.S.Site.meaning in
     let m = meaning c.args.site in

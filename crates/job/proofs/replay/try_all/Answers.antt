@@ -12,7 +12,7 @@ use Rattle.job.proofs.replay.try_all.Goals as goal
 
 pub loop-at-preserved : goal.loop-at-preserved
 loop-at-preserved g c =
-    let k = kind_of g.row.S-Charge-Charge in
+    let k = kind_of g.S.Charge.Charge in
     let many = g.Q.PriorityQueue.many in
     let meaning = g.S.Site.meaning in
     let m = meaning (site_below c.args.job.now) in
@@ -37,7 +37,7 @@ loop-at-preserved g c =
 
 pub returns : goal.returns
 returns g c =
-    let k = kind_of g.row.S-Charge-Charge in
+    let k = kind_of g.S.Charge.Charge in
     let many = g.Q.PriorityQueue.many in
     let m = g.S.Site.meaning (site_below c.args.job.now) in
     let closed = closed_by c.args.job.now in

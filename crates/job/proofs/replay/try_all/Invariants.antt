@@ -12,4 +12,4 @@ invariant-loop-at g l =
     (calls_of l.entries ≡ calls_of l.initial.entries)
     × (site_below l.job ≡ site_below l.initial.job)
     × (closed_by l.job ≡ after_calls (g.S.Site.meaning (site_below l.initial.job)).ways (closed_by l.initial.job) (calls_of (take l.at l.entries)))
-    × Tries (kind_of g.row.S-Charge-Charge) g.Q.PriorityQueue.many (g.S.Site.meaning (site_below l.initial.job)) (closed_by l.initial.job) (lent l.initial.cells l.initial.queue l.initial.run) (lent l.cells l.queue l.run) (take l.at l.entries)
+    × Tries (kind_of g.S.Charge.Charge) g.Q.PriorityQueue.many (g.S.Site.meaning (site_below l.initial.job)) (closed_by l.initial.job) (lent l.initial.cells l.initial.queue l.initial.run) (lent l.cells l.queue l.run) (take l.at l.entries)

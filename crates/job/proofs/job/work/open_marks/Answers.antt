@@ -9,4 +9,4 @@ all_open (x ∷ xs) h zero = ⊎_elim (λ e. e) (λ e. e) h.0
 all_open (x ∷ xs) h (suc n) = all_open xs h.1 n
 
 pub returns : goal.returns
-returns c = (search rules, all_open (vec_items c.in_ok-marks.marks) c.in_ok-marks.ensures.items)
+returns c = (search rules, all_open (vec_items c.in_ok-closed.closed) c.in_ok-closed.ensures.items)
