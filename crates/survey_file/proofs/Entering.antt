@@ -1,6 +1,6 @@
 -- A record that was read is entered into the draft: what the reader answers, and what the draft then holds, are what
 -- the decoder says. By cases on whether the draft takes the entry.
-use Rattle.std.proofs.Common.{◌≡◌, ℕ, List, IfOk, Ok, Err, Result, sym, refl, ap, ◌∙◌, subst}
+use Rattle.std.proofs.Common.{◌≡◌, ℕ, IfOk, Ok, Err, Result, sym, refl, ap, ◌∙◌, subst}
 use Rattle.refusal.specs.declared.Refusal.{Refusal}
 use Rattle.refusal.specs.declared.Fault.{Fault}
 use Rattle.survey.specs.Contents.{Contents}

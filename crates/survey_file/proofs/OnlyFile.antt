@@ -1,11 +1,9 @@
 -- A file of bytes that is accepted is the file that is written from what it reads as: each field that the reader
 -- accepts has just the bytes that are written for its entry. By induction over the turns of the reader.
-use Rattle.std.proofs.Common.{◌≡◌, ℕ, zero, suc, ◌+◌, ◌-◌, ◌*◌, ◌/◌, ◌%◌, ◌<◌, ◌≤◌, Bool, true, false, cond, eqb, ltb, ◌⊎◌, List, [], ◌∷◌, ◌++◌, length, get_or, drop, Some, None, Ok, Err, Option, Result, sym, refl, ap, ◌∙◌, subst, inl, inr, arith}
+use Rattle.std.proofs.Common.{◌≡◌, ℕ, zero, suc, ◌+◌, ◌-◌, ◌/◌, ◌%◌, ◌<◌, ◌≤◌, Bool, true, false, cond, eqb, ltb, ◌⊎◌, List, [], ◌∷◌, ◌++◌, length, get_or, drop, Some, None, Ok, Option, Result, sym, refl, ap, ◌∙◌, subst, inl, inr, arith}
 use Rattle.std.specs.List.{flat_map}
-use Rattle.std.proofs.lemmas.List.{append_assoc, append-nil, length-append, drop_more, drop_all, get_or_past}
-use Rattle.std.proofs.lemmas.Bool.Decides.{nat_tests}
+use Rattle.std.proofs.lemmas.List.{append_assoc, append-nil, drop_more, drop_all, get_or_past}
 use Rattle.std.proofs.lemmas.Bool.{ltb-false, eqb-true, cases_lt}
-use Rattle.refusal.specs.declared.Refusal.{Refusal}
 use Rattle.refusal.specs.declared.Refusal.TheVariants.{CutShort, WrongLength, WrongTag, WrongEdition, BytesBehind, DraftFull}
 use Rattle.refusal.specs.declared.Fault.{Fault}
 use Rattle.survey.specs.declared.entry.Place.{Place}
@@ -15,8 +13,6 @@ use Rattle.survey.specs.Contents.{Contents, no_contents}
 use Rattle.survey.specs.Edits.{of_repeater, add_place, add_way}
 use Rattle.survey_file.specs.declared.field.Head.{Head}
 use Rattle.survey_file.specs.declared.record.PlaceRecord.{PlaceRecord}
-use Rattle.survey_file.specs.declared.record.WayRecord.{WayRecord}
-use Rattle.survey_file.specs.declared.reader.Phase.{Phase}
 use Rattle.survey_file.specs.declared.reader.Phase.TheVariants as phase
 use Rattle.survey_file.specs.declared.reader.State.{State}
 use Rattle.survey_file.specs.Fields.{fault, located, two_at, four_at, head_at, body_at}

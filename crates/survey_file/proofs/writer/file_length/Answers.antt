@@ -1,12 +1,12 @@
 -- The length so far is that of the fields so far; in the end all places are counted, and the ways have fifteen bytes each.
-use Rattle.std.proofs.Common.{◌≡◌, ◌+◌, ◌≤◌, length, take, ap, ◌∙◌, arith}
+use Rattle.std.proofs.Common.{length, take, ap, ◌∙◌, arith}
 use Rattle.std.specs.List.{flat_map}
 use Rattle.std.proofs.lemmas.List.{length-append, take_all}
 use Rattle.survey.specs.Sealing.{sealed_contents}
 use Rattle.survey_file.specs.Encode.{place_field}
 use Rattle.survey_file.proofs.Writing.{joined_next, joined_past, place_long, file_long}
 use Rattle.survey_file.proofs.writer.file_length.Goals as goal
-use Rattle.survey_file.proofs.writer.file_length.Goals.{in-Some, in-default}
+use Rattle.survey_file.proofs.writer.file_length.Goals.{in-Some, in_default}
 
 pub loop-i-preserved : goal.loop-i-preserved
 loop-i-preserved c =
@@ -17,9 +17,9 @@ loop-i-preserved c =
           let p = w.in-Some.place in
           let more = ap length (joined_next place_field places c.loop-i.i p w.in-Some.ensures) ∙ length-append before (place_field p) in
           let few = place_long p.repeater in
-          (omega (arith, w.length-is, w.place-length-length.ensures, c.loop-i.invariant.0), omega (arith, w.length-is, w.place-length-length.ensures, c.loop-i.invariant.1))
-      | in-default w ↦
-          let same = ap length (joined_past place_field places c.loop-i.i w.in-default.ensures) in
+          (omega (arith, w.length-is, w.place_length-length.ensures, c.loop-i.invariant.0), omega (arith, w.length-is, w.place_length-length.ensures, c.loop-i.invariant.1))
+      | in_default w ↦
+          let same = ap length (joined_past place_field places c.loop-i.i w.in_default.ensures) in
           (omega (arith, w.length-is, c.loop-i.invariant.0), omega (arith, w.length-is, c.loop-i.invariant.1))
     ]
 

@@ -9,14 +9,14 @@ use Rattle.survey_file.proofs.writer.put_all.Goals as goal
 pub loop-number-init : goal.loop-number-init
 loop-number-init g c = put_none g.E.Entries.field _ c.args.out.now c.args.start (omega (arith, c.requires))
 
-pub returns-in-err-at : goal.returns-in-err-at
-returns-in-err-at g c =
+pub returns-in_err-at : goal.returns-in_err-at
+returns-in_err-at g c =
     let entries = g.E.Entries.entries c.args.survey.now in
     let loop = c.loop-number in
     let here : loop.number < length entries = omega (arith, c.many-number-end.ensures) in
     let entry = nth_there entries loop.number here in
     absurd (not_refused g.E.Entries.field entries c.args.out.now c.args.start loop.number loop.at loop.out c.requires loop.invariant
-    entry.0 _ entry.1 (c.in-err-at.ensures.answer entry.0 entry.1))
+    entry.0 _ entry.1 (c.in_err-at.ensures.answer entry.0 entry.1))
 
 pub loop-number-preserved : goal.loop-number-preserved
 loop-number-preserved g c =
@@ -24,9 +24,9 @@ loop-number-preserved g c =
     let loop = c.loop-number in
     let here : loop.number < length entries = omega (arith, c.many-number-end.ensures) in
     let entry = nth_there entries loop.number here in
-    let told = c.in-ok-at.ensures in
+    let told = c.in_ok-at.ensures in
     put_more g.E.Entries.field entries c.args.out.now c.args.start loop.number loop.at loop.out c.requires loop.invariant
-    entry.0 c.in-ok-at.at c.put-entry.new.out entry.1 (told.answer entry.0 entry.1) (told.after entry.0 entry.1)
+    entry.0 c.in_ok-at.at c.put_entry.new.out entry.1 (told.answer entry.0 entry.1) (told.after entry.0 entry.1)
 
 pub returns : goal.returns
 returns g c =

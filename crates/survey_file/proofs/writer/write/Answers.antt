@@ -6,9 +6,9 @@ use Rattle.survey_file.specs.Encode.{file_of}
 use Rattle.survey_file.proofs.ReadsBack.{sealed_reads}
 use Rattle.survey_file.proofs.writer.write.Goals as goal
 
-pub returns-then-file-length-out : goal.returns-then-file-length-out
-returns-then-file-length-out c =
+pub returns-then-file_length-out : goal.returns-then-file_length-out
+returns-then-file_length-out c =
     let file = file_of (sealed_contents c.args.survey.now) in
     let out = c.args.out.now in
-    let short : length out < 0 + length file = omega (arith, c.file-length.ensures.value, c.if-file-length-out.true) in
+    let short : length out < 0 + length file = omega (arith, c.file_length.ensures.value, c.if-file_length-out.true) in
     record { answer = sym (placed_not out 0 file short); after = sym (over_not out 0 file short); reads = sealed_reads c.args.survey.now }

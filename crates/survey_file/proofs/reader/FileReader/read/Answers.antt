@@ -11,6 +11,6 @@ returns c = record {
   after = search rules;
   spare = search rules;
   written =
-      only_file c.args.bytes.now (contents c.fill.new.draft) (λ i below. (c.type-inv.bytes i).fits) c.in-ok-fill.ensures.draft
-      ∙ ap (λ d. file_of (contents d)) (sym c.swap.ensures.y-after);
+      only_file c.args.bytes.now (contents c.fill.new.draft) (λ i below. (c.type_inv.bytes i).fits) c.in_ok-fill.ensures.draft
+      ∙ ap (λ d. file_of (contents d)) (sym c.swap.ensures.y_after);
 }
