@@ -1,13 +1,12 @@
 -- A sealed survey keeps the bounds of a site: what stands in it has passed the checks of the draft.
-use Rattle.std.specs.Prelude.{◌≡◌, ℕ, ◌<◌, ◌≤◌, true, false, length, is_ok, Some, None, Ok, Err, vec_items, vec_len, Option, Result, refl}
+use Rattle.std.specs.Prelude.{◌≡◌, ℕ, ◌<◌, ◌≤◌, true, length, is_ok, Some, None, Ok, Option, refl}
 use Rattle.std.proofs.Common.{sym, ap, subst, ◌∙◌, arith}
 use Rattle.std.specs.List.{slice_get}
 use Rattle.std.proofs.lemmas.Option.{slice_get_past}
 use Rattle.site.specs.declared.way.Way.{Way}
-use Rattle.site.specs.Meaning.{SiteMeaning, Bounded}
+use Rattle.site.specs.Meaning.{Bounded}
 use Rattle.survey.specs.declared.entry.WayEntry.{WayEntry}
 use Rattle.survey.specs.declared.sealed.Sealed.{Sealed}
-use Rattle.survey.specs.Contents.{Contents}
 use Rattle.survey.specs.Sealing.{sealed_contents}
 use Rattle.survey.specs.Checks.{way_check, good_ways}
 use Rattle.survey.proofs.Good.{way_good, way_passed, way_ends, way_loss, loss_small}

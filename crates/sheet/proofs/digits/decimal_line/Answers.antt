@@ -12,6 +12,6 @@ returns c =
     let few = length-decimal-le 20 n (omega arith) (omega arith) small in
     let read = decimal_is_IsNumeral n small in
     record {
-      text = says_more (text_of c.new-line.result) (text_of c.push-number.new.self) [] (decimal n) c.new-line.ensures c.push-number.ensures (omega arith);
+      text = says_more (text_of c.new-line.result) (text_of c.push_number.new.self) [] (decimal n) c.new-line.ensures c.push_number.ensures (omega arith);
       plain = record { digits = read.0; reads = read.1; zero_is = λ e. ap decimal e ∙ decimal_digit 0 (omega arith); no_zero_first = λ h. first_decimal n h small };
     }

@@ -6,8 +6,8 @@ use Rattle.sheet.proofs.digits.spell.Goals as goal
 pub loop-rest-init : goal.loop-rest-init
 loop-rest-init c = begun _ _ (search rules) c.requires
 
-pub overflow-sub-at : goal.overflow-sub-at
-overflow-sub-at c = room c.args.n _ _ _ (search rules) c.loop-rest.invariant (search rules)
+pub overflow_sub-at : goal.overflow_sub-at
+overflow_sub-at c = room c.args.n _ _ _ (search rules) c.loop-rest.invariant (search rules)
 
 pub loop-rest-preserved : goal.loop-rest-preserved
 loop-rest-preserved c =

@@ -1,5 +1,5 @@
 -- The line says the four numbers, and then the mark.
-use Rattle.std.proofs.Common.{◌≡◌, ℕ, ◌^◌, ◌<◌, ◌≤◌, Bool, true, false, cond, List, [], ◌∷◌, ◌++◌, length, ap, ◌∙◌, arith, rules}
+use Rattle.std.proofs.Common.{◌^◌, ◌<◌, ◌≤◌, Bool, true, false, [], ◌++◌, length, ap, ◌∙◌, arith, rules}
 use Rattle.std.proofs.lemmas.List.{append_assoc, length-append}
 use Rattle.sheet.specs.Lines.{text_of, pushed}
 use Rattle.sheet.specs.Refused.{figure}
@@ -23,17 +23,17 @@ returns c =
     let from-small : x.from < 2 ^ 64 = search rules in
     let to-small : x.to < 2 ^ 64 = search rules in
     let loss_small : x.loss < 2 ^ 64 = search rules in
-    let one = says_figure _ (text_of c.push-number-then.new.self) [] x.way 32 way-small c.new-line.ensures c.push-number-then.ensures (omega arith) in
+    let one = says_figure _ (text_of c.push_number_then.new.self) [] x.way 32 way-small c.new-line.ensures c.push_number_then.ensures (omega arith) in
     let long-a = figure_long x.way 32 way-small in
-    let two = says_figure _ (text_of c.push-number-then-2.new.self) a x.from 32 from-small one c.push-number-then-2.ensures (omega arith) in
+    let two = says_figure _ (text_of c.push_number_then-2.new.self) a x.from 32 from-small one c.push_number_then-2.ensures (omega arith) in
     let long-b = figure_long x.from 32 from-small in
     let long-ab = length-append a b in
-    let three = says_figure _ (text_of c.push-number-then-3.new.self) (a ++ b) x.to 32 to-small two c.push-number-then-3.ensures (omega arith) in
+    let three = says_figure _ (text_of c.push_number_then-3.new.self) (a ++ b) x.to 32 to-small two c.push_number_then-3.ensures (omega arith) in
     let long-d = figure_long x.to 32 to-small in
     let long-abd = length-append (a ++ b) d in
-    let four = says_figure _ (text_of c.push-number-then-4.new.self) ((a ++ b) ++ d) x.loss 32 loss_small three c.push-number-then-4.ensures (omega arith) in
+    let four = says_figure _ (text_of c.push_number_then-4.new.self) ((a ++ b) ++ d) x.loss 32 loss_small three c.push_number_then-4.ensures (omega arith) in
     let long-e = figure_long x.loss 32 loss_small in
     let long-abde = length-append ((a ++ b) ++ d) e in
     let long-f = mark_long x.mark in
-    let all = says_more _ (text_of c.push.new.self) (((a ++ b) ++ d) ++ e) f four (c.push.ensures ∙ ap (pushed (text_of c.push-number-then-4.new.self)) c.mark-end.ensures) (omega arith) in
+    let all = says_more _ (text_of c.push.new.self) (((a ++ b) ++ d) ++ e) f four (c.push.ensures ∙ ap (pushed (text_of c.push_number_then-4.new.self)) c.mark_end.ensures) (omega arith) in
     all ∙ append_assoc ((a ++ b) ++ d) e f ∙ append_assoc (a ++ b) d (e ++ f) ∙ append_assoc a b (d ++ (e ++ f))

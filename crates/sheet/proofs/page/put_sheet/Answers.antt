@@ -1,11 +1,11 @@
 -- The first line, the lines of the steps and the last line are laid one behind the other, and there is room for each.
-use Rattle.std.proofs.Common.{◌≡◌, ℕ, ◌+◌, ◌-◌, ◌<◌, ◌≤◌, List, ◌++◌, length, sym, refl, ap, ◌∙◌, arith, rules}
+use Rattle.std.proofs.Common.{◌≡◌, ℕ, ◌+◌, ◌<◌, ◌≤◌, List, ◌++◌, length, sym, refl, ap, ◌∙◌, arith}
 use Rattle.byte_slices.specs.Lay.{placed, over}
 use Rattle.byte_slices.proofs.Laid.{placed_not, over_not, not_refused, parts_long, three_laid}
 use Rattle.survey.specs.Sealing.{sealed_contents}
 use Rattle.views.specs.SurveySite.{money_site}
 use Rattle.sheet.specs.Lines.{text_of}
-use Rattle.sheet.specs.Sheet.{run_line, step_lines, total_line, sheet_text}
+use Rattle.sheet.specs.Sheet.{step_lines, total_line, sheet_text}
 use Rattle.sheet.proofs.page.put_sheet.Goals as goal
 
 -- the pieces are those of the sheet
@@ -16,9 +16,9 @@ pub returns-then-out-ends : goal.returns-then-out-ends
 returns-then-out-ends c =
     let out = c.args.out.now in
     let steps = step_lines (money_site (sealed_contents c.args.survey.now)) 0 c.args.steps.now in
-    let first = text_of c.run-line-first.result in
-    let last = text_of c.total-line-last.result in
-    let text = same_parts first _ steps steps last _ c.run-line-first.ensures refl (c.total-line-last.ensures ∙ ap total_line c.requires.sum) in
+    let first = text_of c.run_line-first.result in
+    let last = text_of c.total_line-last.result in
+    let text = same_parts first _ steps steps last _ c.run_line-first.ensures refl (c.total_line-last.ensures ∙ ap total_line c.requires.sum) in
     let long = parts_long first steps last in
     let whole = ap length text in
     let sheet = sheet_text (money_site (sealed_contents c.args.survey.now)) c.args.request.now c.args.steps.now in
@@ -26,44 +26,44 @@ returns-then-out-ends c =
     omega (arith, c.len.ensures, c.len-2.ensures, c.if-out-ends.true) in
     record { answer = sym (placed_not out 0 sheet short); after = sym (over_not out 0 sheet short) }
 
-pub returns-in-default : goal.returns-in-default
-returns-in-default c =
+pub returns-in_default : goal.returns-in_default
+returns-in_default c =
     let out = c.args.out.now in
     let viewed = ap money_site c.over-view.ensures in
     let steps = step_lines (money_site (sealed_contents c.over-view.result.survey.now)) 0 c.args.steps.now in
-    let first = text_of c.run-line-first.result in
-    let last = text_of c.total-line-last.result in
-    let text = same_parts first _ steps _ last _ c.run-line-first.ensures (ap (λ m. step_lines m 0 c.args.steps.now) viewed) (c.total-line-last.ensures ∙ ap total_line c.requires.sum) in
+    let first = text_of c.run_line-first.result in
+    let last = text_of c.total_line-last.result in
+    let text = same_parts first _ steps _ last _ c.run_line-first.ensures (ap (λ m. step_lines m 0 c.args.steps.now) viewed) (c.total_line-last.ensures ∙ ap total_line c.requires.sum) in
     let long = parts_long first steps last in
     let whole = ap length text in
     let sheet = sheet_text (money_site (sealed_contents c.args.survey.now)) c.args.request.now c.args.steps.now in
     let short : length out < 0 + length sheet =
-    omega (arith, c.len.ensures, c.len-2.ensures, c.if-out-ends.false, c.in-default.ensures) in
+    omega (arith, c.len.ensures, c.len-2.ensures, c.if-out-ends.false, c.in_default.ensures) in
     record { answer = sym (placed_not out 0 sheet short); after = sym (over_not out 0 sheet short) }
 
-pub returns-in-err-after-first : goal.returns-in-err-after-first
-returns-in-err-after-first c =
+pub returns-in_err-after_first : goal.returns-in_err-after_first
+returns-in_err-after_first c =
     let viewed = ap money_site c.over-view.ensures in
-    let first = text_of c.run-line-first.result in
+    let first = text_of c.run_line-first.result in
     let fits : 0 + length first ≤ length c.args.out.now = omega (arith, c.len.ensures, c.if-out-ends.false) in
-    absurd (not_refused c.args.out.now 0 first _ fits c.in-err-after-first.ensures.answer)
+    absurd (not_refused c.args.out.now 0 first _ fits c.in_err-after_first.ensures.answer)
 
 pub returns : goal.returns
 returns c =
     let out = c.args.out.now in
     let viewed = ap money_site c.over-view.ensures in
     let steps = step_lines (money_site (sealed_contents c.over-view.result.survey.now)) 0 c.args.steps.now in
-    let first = text_of c.run-line-first.result in
-    let last = text_of c.total-line-last.result in
-    let text = same_parts first _ steps _ last _ c.run-line-first.ensures (ap (λ m. step_lines m 0 c.args.steps.now) viewed) (c.total-line-last.ensures ∙ ap total_line c.requires.sum) in
+    let first = text_of c.run_line-first.result in
+    let last = text_of c.total_line-last.result in
+    let text = same_parts first _ steps _ last _ c.run_line-first.ensures (ap (λ m. step_lines m 0 c.args.steps.now) viewed) (c.total_line-last.ensures ∙ ap total_line c.requires.sum) in
     let long = parts_long first steps last in
     let measured = c.in-Some.ensures in
     let room : length (first ++ (steps ++ last)) ≤ length out = omega (arith, c.len.ensures, c.len-2.ensures, c.if-out-ends.false, measured.0, measured.1) in
-    let told = c.in-ok-after-first.ensures in
-    let told-steps = c.in-ok-after-steps.ensures in
-    let laid = three_laid out first steps last room c.in-ok-after-first.after_first c.in-ok-after-steps.after-steps c.put-into.new.out c.put-steps.new.out
+    let told = c.in_ok-after_first.ensures in
+    let told-steps = c.in_ok-after_steps.ensures in
+    let laid = three_laid out first steps last room c.in_ok-after_first.after_first c.in_ok-after_steps.after_steps c.put_into.new.out c.put_steps.new.out
     told.answer told.after told-steps.answer told-steps.after in
     record {
-      answer = c.put-into-2.ensures.answer ∙ laid.0 ∙ ap (placed out 0) text;
-      after = c.put-into-2.ensures.after ∙ laid.1 ∙ ap (over out 0) text;
+      answer = c.put_into-2.ensures.answer ∙ laid.0 ∙ ap (placed out 0) text;
+      after = c.put_into-2.ensures.after ∙ laid.1 ∙ ap (over out 0) text;
     }

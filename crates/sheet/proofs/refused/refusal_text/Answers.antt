@@ -1,8 +1,7 @@
 -- The line says the word, and then the number.
-use Rattle.std.proofs.Common.{◌≡◌, ◌^◌, ◌<◌, [], ◌++◌, codes, refl, ap, ◌∙◌, arith, rules}
-use Rattle.refusal.specs.Numbers.{number}
+use Rattle.std.proofs.Common.{◌^◌, ◌<◌, [], ◌++◌, codes, ap, ◌∙◌, arith, rules}
 use Rattle.sheet.specs.Lines.{text_of}
-use Rattle.sheet.specs.Refused.{refusal_text, figure}
+use Rattle.sheet.specs.Refused.{figure}
 use Rattle.sheet.proofs.Growing.{says_more, says_figure}
 use Rattle.sheet.proofs.refused.refusal_text.Goals as goal
 
@@ -10,5 +9,5 @@ pub returns : goal.returns
 returns c =
     let word = says_more (text_of c.new-line.result) (text_of c.push.new.self) [] (codes "REFUSED ") c.new-line.ensures c.push.ensures (omega arith) in
     let small : c.code.result < 2 ^ 64 = search rules in
-    let whole = says_figure _ (text_of c.push-number-then.new.self) (codes "REFUSED ") c.code.result 10 small word c.push-number-then.ensures (omega arith) in
+    let whole = says_figure _ (text_of c.push_number_then.new.self) (codes "REFUSED ") c.code.result 10 small word c.push_number_then.ensures (omega arith) in
     whole ∙ ap (λ n. codes "REFUSED " ++ figure n 10) c.code.ensures

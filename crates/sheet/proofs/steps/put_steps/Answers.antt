@@ -1,5 +1,5 @@
 -- The lines so far stand in the bytes, and there is room for each.
-use Rattle.std.proofs.Common.{Ok, sym, refl, ap, ◌∙◌, arith}
+use Rattle.std.proofs.Common.{Ok, ap, arith}
 use Rattle.sheet.specs.Lines.{text_of}
 use Rattle.sheet.proofs.Stepping.{printed_none, printed_low, printed_more, line_not_refused, printed_all}
 use Rattle.sheet.proofs.steps.put_steps.Goals as goal
@@ -13,17 +13,17 @@ arrive-arrival-requires g c =
     printed_low (g.S.Site.meaning c.args.site.now) c.args.request.now c.args.steps.now c.args.out.now c.args.start c.loop-step.loss c.loop-step.step-index c.loop-step.at c.loop-step.out
     c.requires.bound c.loop-step.invariant
 
-pub returns-in-err-at : goal.returns-in-err-at
-returns-in-err-at g c =
+pub returns-in_err-at : goal.returns-in_err-at
+returns-in_err-at g c =
     absurd (line_not_refused (g.S.Site.meaning c.args.site.now) c.args.request.now c.args.steps.now c.args.out.now c.args.start c.loop-step.loss c.loop-step.step-index c.loop-step.at c.loop-step.out
-    (text_of c.arrive-arrival.result.line) c.requires.room c.loop-step-test.true c.loop-step.invariant c.arrive-arrival.ensures.line _ c.in-err-at.ensures.answer)
+    (text_of c.arrive-arrival.result.line) c.requires.room c.loop-step-test.true c.loop-step.invariant c.arrive-arrival.ensures.line _ c.in_err-at.ensures.answer)
 
 pub loop-step-preserved : goal.loop-step-preserved
 loop-step-preserved g c =
-    let told = c.in-ok-at.ensures in
+    let told = c.in_ok-at.ensures in
     printed_more (g.S.Site.meaning c.args.site.now) c.args.request.now c.args.steps.now c.args.out.now c.args.start c.loop-step.loss c.loop-step.step-index c.loop-step.at c.loop-step.out
     (text_of c.arrive-arrival.result.line) c.requires.room c.loop-step-test.true c.loop-step.invariant c.arrive-arrival.ensures.line
-    c.in-ok-at.at c.arrive-arrival.result.loss c.put-into.new.out c.arrive-arrival.ensures.loss told.answer told.after
+    c.in_ok-at.at c.arrive-arrival.result.loss c.put_into.new.out c.arrive-arrival.ensures.loss told.answer told.after
 
 pub returns : goal.returns
 returns g c =

@@ -1,5 +1,5 @@
 -- The length so far is that of the lines so far.
-use Rattle.std.proofs.Common.{◌+◌, sym, refl, ap, ◌∙◌, arith}
+use Rattle.std.proofs.Common.{◌+◌, ap, arith}
 use Rattle.sheet.specs.Lines.{text_of}
 use Rattle.sheet.proofs.Stepping.{measured_none, measured_more, measured_over, measured_all, loss_low}
 use Rattle.sheet.proofs.steps.steps_length.Goals as goal
@@ -11,8 +11,8 @@ pub arrive-arrival-requires : goal.arrive-arrival-requires
 arrive-arrival-requires g c =
     loss_low (g.S.Site.meaning c.args.site.now) c.args.request.now c.args.steps.now c.args.most c.loop-step.loss c.loop-step.step-index c.loop-step.length c.requires.bound c.loop-step.invariant
 
-pub overflow-sub-most : goal.overflow-sub-most
-overflow-sub-most g c = c.loop-step.invariant.few
+pub overflow_sub-most : goal.overflow_sub-most
+overflow_sub-most g c = c.loop-step.invariant.few
 
 pub returns-then-len-most : goal.returns-then-len-most
 returns-then-len-most g c =

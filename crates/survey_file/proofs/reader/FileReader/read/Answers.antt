@@ -1,16 +1,11 @@
 -- What was read goes into the caller's draft, and the file is the one written from it.
-use Rattle.std.proofs.Common.{sym, ap, ◌∙◌, rules}
+use Rattle.std.proofs.Common.{sym, ap, ◌∙◌}
 use Rattle.survey.specs.Contents.{contents}
 use Rattle.survey_file.specs.Encode.{file_of}
 use Rattle.survey_file.proofs.OnlyFile.{only_file}
 use Rattle.survey_file.proofs.reader.FileReader.read.Goals as goal
 
-pub returns : goal.returns
-returns c = record {
-  answer = search rules;
-  after = search rules;
-  spare = search rules;
-  written =
-      only_file c.args.bytes.now (contents c.fill.new.draft) (λ i below. (c.type_inv.bytes i).fits) c.in_ok-fill.ensures.draft
-      ∙ ap (λ d. file_of (contents d)) (sym c.swap.ensures.y_after);
-}
+pub returns-clause-written : goal.returns-clause-written
+returns-clause-written c =
+    only_file c.args.bytes.now (contents c.fill.new.draft) (λ i below. (c.type_inv.bytes i).fits) c.in_ok-fill.ensures.draft
+    ∙ ap (λ d. file_of (contents d)) (sym c.swap.ensures.y_after)
