@@ -37,12 +37,12 @@ impl Tally {
 
 fn show(rt: &HostRuntime, answer: Answer) -> io::Result<()> {
     match answer {
-        Answer::Rows(n) => print!(rt, "ROWS {n}"),
-        Answer::Put => print!(rt, "PUT"),
-        Answer::Refused(code) => print!(rt, "REFUSED {code}"),
-        Answer::Took(cents) => print!(rt, "TOOK {cents}"),
-        Answer::NoneWaits => print!(rt, "NONE"),
-        Answer::Emptied => print!(rt, "EMPTIED"),
+        Answer::Rows(n) => print!(rt; "ROWS {n}"),
+        Answer::Put => print!(rt; "PUT"),
+        Answer::Refused(code) => print!(rt; "REFUSED {code}"),
+        Answer::Took(cents) => print!(rt; "TOOK {cents}"),
+        Answer::NoneWaits => print!(rt; "NONE"),
+        Answer::Emptied => print!(rt; "EMPTIED"),
     }
 }
 
@@ -67,7 +67,7 @@ fn play<P: PriorityQueue<Charge = Money>, Q: PriorityQueue<Charge = Money>>(
     if same {
         return println!(rt; " SAME");
     }
-    print!(rt, " OTHER ")?;
+    print!(rt; " OTHER ")?;
     show(rt, b)?;
     println!(rt; "")
 }

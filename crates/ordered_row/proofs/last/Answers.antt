@@ -17,7 +17,7 @@ pub returns : goal.returns
 returns g c =
     let rows = c.args.rows.now in
     let len = c.args.len in
-    let within = g.row.C-Charge.within in
+    let within = g.C.Charge.within in
     let w = c.requires.within in
     let some : 0 < len = omega arith in
     record {

@@ -1,5 +1,5 @@
 -- the charge is written, the cell goes behind those that wait, and then up
-use Rattle.std.proofs.Common.{◌≡◌, ℕ, ◌+◌, ◌-◌, List, length, get_or, sym, ap, ◌∙◌, subst, arith}
+use Rattle.std.proofs.Common.{◌≡◌, ℕ, ◌+◌, List, length, get_or, sym, ap, ◌∙◌, subst, arith}
 use lib.ListN.{length-map}
 use Rattle.slots.specs.Order.{Placed, Exchanged, Rising, Ahead, Arranged, ranked}
 use Rattle.slots.specs.Waiting.{waits_of}
@@ -12,15 +12,15 @@ use Rattle.slots.proofs.arrange.enter.Goals as goal
 told : {cs ps cs₀ ps₀ cs' ps' : List ℕ} {a b j : ℕ} → cs ≡ cs₀ → ps ≡ ps₀ → a ≡ b → Exchanged cs ps cs' ps' a j → Exchanged cs₀ ps₀ cs' ps' b j
 told p q r x = rw (← p, ← q, ← r) x
 
-pub sift-up-requires : goal.sift-up-requires
-sift-up-requires g c =
+pub sift_up-requires : goal.sift_up-requires
+sift_up-requires g c =
     let rank = ranked g.L.Layout.turned g.C.Charge.within in
     let up = g.L.Layout.up in
     let tree = g.met.L.Layout.tree in
     let rows = c.args.rows.now in
     let last = c.exchange.new.rows in
-    let s = c.set-charge.ensures in
-    let x = told s.cells s.positions (c.position-at-at.ensures ∙ ap (λ ps. get_or ps c.args.cell 0) s.positions) c.exchange.ensures.exchanged in
+    let s = c.set_charge.ensures in
+    let x = told s.cells s.positions (c.position_at-at.ensures ∙ ap (λ ps. get_or ps c.args.cell 0) s.positions) c.exchange.ensures.exchanged in
     let m = room up g.L.Layout.down tree rank (length rows) c.args.len c.args.cell (charges rows) c.args.charge (cells rows) (positions rows) (cells last) (positions last) c.requires.order c.requires.within c.requires.apart x in
     let r = rising up g.L.Layout.down tree rank (length rows) c.args.len c.args.cell (charges rows) c.args.charge (cells rows) (positions rows) (cells last) (positions last) c.requires.order c.requires.within c.requires.apart x in
     record {

@@ -2,7 +2,7 @@
 use Rattle.std.proofs.Common.{◌<◌, length, get_or, ap, ◌∙◌, arith}
 use lib.ListN.{length-map}
 use Rattle.std.proofs.lemmas.List.Edits.{fill_by_more}
-use Rattle.slots.specs.Rows.{cells, positions, charges}
+use Rattle.slots.specs.Rows.{cells, positions}
 use Rattle.slots.proofs.Entry.{own_positions}
 use Rattle.slots.proofs.arrange.set_out.Goals as goal
 

@@ -7,8 +7,8 @@ use Rattle.slots.proofs.Ranks.{ranked_transitive, ranked_total, itself}
 use Rattle.slots.proofs.Top.{sinking, top_taken}
 use Rattle.slots.proofs.arrange.take_top.Goals as goal
 
-pub sift-down-requires : goal.sift-down-requires
-sift-down-requires g c =
+pub sift_down-requires : goal.sift_down-requires
+sift_down-requires g c =
     let rank = ranked g.L.Layout.turned g.C.Charge.within in
     let rows = c.args.rows.now in
     let last = c.exchange.new.rows in

@@ -1,7 +1,7 @@
 -- four writes make the exchange of two columns, which keeps every cell at one position
 use Rattle.std.proofs.Common.{◌≡◌, length, get_or, set, ap, ◌∙◌, length-set}
 use Rattle.slots.specs.Order.{Exchanged}
-use Rattle.slots.specs.Rows.{cells, positions, charges}
+use Rattle.slots.specs.Rows.{cells, positions}
 use Rattle.slots.proofs.Swaps.{exchanged, placed}
 use Rattle.slots.proofs.column.exchange.Goals as goal
 
