@@ -50,8 +50,8 @@ pub fn across(bound: usize) -> Request
 
 fn show(rt: &HostRuntime, gave: Gave) -> io::Result<()> {
     match gave {
-        Gave::Total(figure) => print!(rt, "{figure}"),
-        Gave::Refused(number) => print!(rt, "REFUSED {number}"),
+        Gave::Total(figure) => print!(rt; "{figure}"),
+        Gave::Refused(number) => print!(rt; "REFUSED {number}"),
     }
 }
 
@@ -66,14 +66,14 @@ pub fn tell(
     let right = heap == case.expected && row == case.expected;
     tally.count(right);
     let name = case.name;
-    print!(rt, "{name}: heap ")?;
+    print!(rt; "{name}: heap ")?;
     show(rt, heap)?;
-    print!(rt, ", ordered row ")?;
+    print!(rt; ", ordered row ")?;
     show(rt, row)?;
     if right {
         return println!(rt; "");
     }
-    print!(rt, ", AND NOT ")?;
+    print!(rt; ", AND NOT ")?;
     show(rt, case.expected)?;
     println!(rt; "")
 }

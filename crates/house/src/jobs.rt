@@ -1,8 +1,8 @@
 // Plans on jobs over the house, and on jobs over jobs.
 use crate::case::{Case, Tally, across, play};
+use crate::four_places::house;
 use crate::gave::Gave;
 use crate::memory::each;
-use crate::survey::house;
 use anyhow::anyhow;
 use charge::money::Money;
 use job::job::Job;

@@ -6,12 +6,12 @@ use crate::case::Tally;
 
 mod case;
 mod floor;
+mod four_places;
 mod gave;
 mod jobs;
 mod memory;
 mod plain;
 mod rows;
-mod survey;
 
 fn run(rt: &HostRuntime) -> anyhow::Result<()> {
     let mut tally = Tally { cases: 0, right: 0 };

@@ -1,8 +1,8 @@
 // Plans on the house with all ways open.
 use crate::case::{Case, Tally, across, play, tell};
+use crate::four_places::house;
 use crate::gave::{Gave, of_disturbance};
 use crate::memory::{Memory, each, with_heap, with_ordered_row};
-use crate::survey::house;
 use charge::disturbance::Disturbance;
 use site::run::Request;
 use views::disturbance::DisturbanceView;

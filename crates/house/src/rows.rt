@@ -1,8 +1,8 @@
 // How many rows a plan needs, and rows and a queue that a plan before has left.
 use crate::case::{Case, Tally, across, play, tell};
+use crate::four_places::house;
 use crate::gave::{Gave, of_money};
 use crate::memory::{Memory, Rows, again_with_heap, again_with_ordered_row, each};
-use crate::survey::house;
 use views::money::MoneyView;
 
 // A plan within 35 with so many rows of each sort.
