@@ -1,5 +1,5 @@
 -- A rule of a table of rows holds at each entry, since one test that is computed over the whole table passes.
-use Rattle.std.proofs.Common.{◌≡◌, ℕ, zero, suc, ◌+◌, ◌<◌, Bool, true, false, T, eqb, List, [], ◌∷◌, length, get_or, sym, ◌∙◌, subst, le_of_suc-le-suc, not-suc-le-zero, add-zero, zero-add, arith, eqb→eq}
+use Rattle.std.proofs.Common.{◌≡◌, ℕ, zero, suc, ◌+◌, ◌<◌, Bool, true, false, T, eqb, List, [], ◌∷◌, length, get_or, sym, subst, le_of_suc-le-suc, not-suc-le-zero, add-zero, zero-add, arith, eqb→eq}
 
 abbrev both : Bool → Bool → Bool
 both true b = b

@@ -1,12 +1,12 @@
 -- A grid keeps the bounds of a site: its sides are from 1 to 64, and a way leads to a row and a column that it has.
 -- Stands on Floor and Grids.
 use Rattle.std.specs.Prelude.{◌≡◌, ℕ, ◌+◌, ◌-◌, ◌*◌, ◌/◌, ◌%◌, ◌<◌, ◌≤◌, Bool, true, false, cond, Some, None, Option, ◌==◌, nat_lt, refl}
-use Rattle.std.proofs.Common.{sym, ap, subst, ◌∙◌, mul-le-mul, div-lt_iff_lt-mul, mod-lt, arith, ltb-true, le-ltb}
+use Rattle.std.proofs.Common.{sym, ap, subst, mul-le-mul, div-lt_iff_lt-mul, mod-lt, arith, ltb-true, le-ltb}
 use Rattle.std.proofs.Math.Arith.{digits_lt}
 use Rattle.site.specs.declared.way.Way.{Way}
-use Rattle.site.specs.Meaning.{SiteMeaning, Bounded}
+use Rattle.site.specs.Meaning.{Bounded}
 use Rattle.grid.specs.declared.grid.FloorGrid.{FloorGrid}
-use Rattle.grid.specs.Floor.{Floor, place_at, neighbour, towards, right_of, left_of, below, above, way_to, floor_site}
+use Rattle.grid.specs.Floor.{Floor, place_at, neighbour, towards, way_to, floor_site}
 use Rattle.grid.specs.Grids.{floor_of}
 
 -- something that stands only under a test: the test passed

@@ -9,7 +9,7 @@ use Rattle.site.specs.declared.run.Step.{Step}
 use Rattle.site.specs.declared.run.Request.{Request}
 use Rattle.site.specs.Meaning.{SiteMeaning, Bounded}
 use Rattle.charge.specs.Kind.{Kind}
-use Rattle.site.specs.Runs.{Goes, loss_after, after_way, with_repeater, Lawful, total_from, total, Run, Lowest}
+use Rattle.site.specs.Runs.{Goes, loss_after, after_way, with_repeater, Lawful, total_from, Run, Lowest}
 use Rattle.queue.specs.Waits.{Put, Taken}
 use Rattle.search.specs.Cells.{place_of, loss_of}
 use Rattle.search.specs.Search.{Laws, Covered, Offered, Searching, Expanding, Entered, Dominated}

@@ -1,5 +1,5 @@
 -- The table passes the test of its rule, so each entry keeps it.
-use Rattle.std.proofs.Common.{ℕ, ◌*◌, rules}
+use Rattle.std.proofs.Common.{◌*◌, rules}
 use Rattle.card.specs.Card.{ceiling, figure}
 use Rattle.card.proofs.Table.{entry_is}
 use Rattle.card.proofs.entry.Goals as goal

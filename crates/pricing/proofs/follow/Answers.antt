@@ -1,5 +1,5 @@
 -- The run is followed step by step; in the end nothing is left of it.
-use Rattle.std.proofs.Common.{◌≡◌, ◌+◌, drop, None, sym, subst, arith, MatchOption}
+use Rattle.std.proofs.Common.{◌+◌, drop, sym, subst, MatchOption}
 use Rattle.site.specs.Whole.{kind_of}
 use Rattle.site.specs.Runs.{Run}
 use Rattle.pricing.specs.Stands.{Reached}

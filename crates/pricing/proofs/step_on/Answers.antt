@@ -1,5 +1,5 @@
 -- The three tests have passed, so the step may be made; where it leads is what the step says.
-use Rattle.std.proofs.Common.{◌≡◌, true, false, sym, refl, ap, ◌∙◌, subst, rules}
+use Rattle.std.proofs.Common.{refl, rules}
 use Rattle.pricing.proofs.step_on.Goals as goal
 
 pub returns : goal.returns
