@@ -1,9 +1,7 @@
 -- Money and disturbance have the laws that the argument by a table rests on. By arithmetic on their figures.
-use Rattle.std.proofs.Common.{◌≡◌, true, arith, le-leb, leb-true}
-use Rattle.charge.specs.Moneys.{money, money_within, sum_of, figure}
-use Rattle.charge.specs.Grades.{disturbance, grade_within, greater_of}
-use Rattle.charge.specs.declared.money.Money.{Money}
-use Rattle.charge.specs.declared.disturbance.Disturbance.{Disturbance}
+use Rattle.std.proofs.Common.{arith, le-leb, leb-true}
+use Rattle.charge.specs.Moneys.{money}
+use Rattle.charge.specs.Grades.{disturbance}
 use Rattle.cases.proofs.Potential.{Orderly}
 
 pub money_orderly : Orderly money

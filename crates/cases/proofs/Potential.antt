@@ -7,7 +7,7 @@ use Rattle.site.specs.declared.way.Way.{Way}
 use Rattle.site.specs.declared.run.Step.{Step}
 use Rattle.site.specs.declared.run.Request.{Request}
 use Rattle.site.specs.Meaning.{SiteMeaning}
-use Rattle.site.specs.Runs.{Markable, MarkAllowed, Goes, loss_after, Lawful, Run, with_repeater, after_way, total_from, total, Lowest, place_behind, loss_behind}
+use Rattle.site.specs.Runs.{MarkAllowed, Goes, loss_after, Lawful, Run, with_repeater, after_way, total_from, Lowest, place_behind, loss_behind}
 
 -- tests: both, and one that is asked only where another passes
 abbrev both : Bool → Bool → Bool

@@ -1,5 +1,5 @@
 -- Each worked case, by a table of the cells that a run can reach and a run that is drawn by hand: all tests are computed.
-use Rattle.std.proofs.Common.{◌≡◌, ℕ, ◌≤◌, Bool, true, false, cond, T, List, [], ◌∷◌, Some, None, Option, refl, ap, zero-le, le-leb}
+use Rattle.std.proofs.Common.{◌≡◌, ℕ, ◌≤◌, Bool, true, false, cond, T, List, [], ◌∷◌, Some, None, refl, ap, zero-le, le-leb}
 use Rattle.std.proofs.lemmas.Option.{slice_get_past}
 use Rattle.charge.specs.Kind.{Kind}
 use Rattle.charge.specs.Moneys.{money, of_cents}
@@ -17,7 +17,7 @@ use Rattle.job.specs.Book.{empty_book, with_way}
 use Rattle.job.specs.Jobs.{shutting}
 use Rattle.cases.specs.House.{house, house_with, across}
 use Rattle.cases.specs.Cases.{Gives, NoneLawful, Costs}
-use Rattle.cases.proofs.Potential.{Cell, cell, Orderly, closed, ends_from, endless, leads_on, leads_on_lawfully, none_lower, none_lawful}
+use Rattle.cases.proofs.Potential.{Cell, cell, Orderly, closed, ends_from, leads_on, leads_on_lawfully, none_lower, none_lawful}
 use Rattle.cases.proofs.Orders.{money_orderly, disturbance_orderly}
 
 -- past the ways of a survey there is none, shut or not

@@ -5,11 +5,10 @@
 --           way 2 | | way 3              ways 2 and 3: 5 m of U, 200 cents, grade 7
 --                 v |
 --                  2                     a repeater costs 2,000 cents at 1 and 500 cents at 2, and can stand nowhere else
-use Rattle.std.specs.Prelude.{ℕ, List, [], ◌∷◌, Some, None, Option}
+use Rattle.std.specs.Prelude.{ℕ, [], ◌∷◌, Some, None, Option}
 use Rattle.survey.specs.declared.entry.Place.{Place}
 use Rattle.survey.specs.declared.entry.WayEntry.{WayEntry}
 use Rattle.survey.specs.Contents.{Contents}
-use Rattle.site.specs.declared.run.Step.{Step}
 use Rattle.site.specs.declared.run.Request.{Request}
 
 abbrev pub place : Option ℕ → Place

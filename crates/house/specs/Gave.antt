@@ -1,6 +1,6 @@
 -- What a plan gave, in figures: the cents or the grade of a total, or the number of a refusal. Stands on the charge kinds
 -- and the refusals.
-use Rattle.std.specs.Prelude.{ℕ, Ok, Err, Result}
+use Rattle.std.specs.Prelude.{Ok, Err, Result}
 use Rattle.charge.specs.declared.money.Money.{Money}
 use Rattle.charge.specs.declared.disturbance.Disturbance.{Disturbance}
 use Rattle.charge.specs.Moneys.{figure}

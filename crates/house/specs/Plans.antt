@@ -6,7 +6,7 @@ use Rattle.refusal.specs.declared.Refusal.TheVariants.{NoRun}
 use Rattle.site.specs.declared.run.Step.{Step}
 use Rattle.site.specs.declared.run.Request.{Request}
 use Rattle.site.specs.Meaning.{SiteMeaning}
-use Rattle.site.specs.Runs.{Run, Least}
+use Rattle.site.specs.Runs.{Least}
 use Rattle.planner.specs.declared.planned.Planned.{Planned}
 use Rattle.planner.specs.Outcome.{NoLawful}
 

@@ -12,7 +12,7 @@ use Rattle.survey.specs.Contents.{Contents}
 use Rattle.site.specs.declared.way.Way.{Way}
 use Rattle.site.specs.declared.run.Step.{Step}
 use Rattle.site.specs.declared.run.Request.{Request}
-use Rattle.site.specs.Runs.{Markable, MarkAllowed, Goes, loss_after, Lawful, Run}
+use Rattle.site.specs.Runs.{Markable, MarkAllowed, loss_after, Lawful, Run}
 use Rattle.views.specs.SurveySite.{money_site, way_of, open_way, repeater_of, priced_as, entry_loss}
 use Rattle.relays.specs.Problem.{Path, loss_at, arrival_at, loss, arrival, relays, extended, stretches, entered_at, RelayStands, Feasible}
 

@@ -1,6 +1,6 @@
 -- What stands in a sealed survey has passed its checks, so no way and no repeater costs more than 1,000,000 cents, and a path
 -- at most 2,000,000 for each of its steps.
-use Rattle.std.proofs.Common.{◌≡◌, ℕ, zero, suc, ◌+◌, ◌*◌, ◌≤◌, Bool, true, false, cond, leb, List, [], ◌∷◌, length, is_ok, Some, None, Ok, Err, Option, sym, refl, ap, ◌∙◌, arith}
+use Rattle.std.proofs.Common.{◌≡◌, ℕ, zero, suc, ◌+◌, ◌*◌, ◌≤◌, Bool, true, false, cond, leb, List, [], ◌∷◌, length, is_ok, Some, None, Ok, Err, Option, refl, arith}
 use Rattle.std.specs.List.{slice_get}
 use Rattle.std.proofs.lemmas.Bool.{leb-true}
 use Rattle.refusal.specs.declared.Refusal.{Refusal}
@@ -13,7 +13,7 @@ use Rattle.survey.specs.Sealing.{sealed_contents}
 use Rattle.survey.specs.Checks.{then, price_check, place_check, ends_check, way_check, good_places, good_way, good_ways}
 use Rattle.survey.proofs.Good.{cond_first, cond_second, way_passed, then_passed}
 use Rattle.site.specs.declared.run.Step.{Step}
-use Rattle.relays.specs.Problem.{price_at, price, arrival, entered_at, relay_cents, relay_price, value}
+use Rattle.relays.specs.Problem.{price_at, arrival, entered_at, relay_cents, relay_price, value}
 use Rattle.relays.proofs.Totals.{set_cents, value_front}
 
 price_low : (p : ℕ) → is_ok (price_check p) ≡ true → p ≤ 1000000

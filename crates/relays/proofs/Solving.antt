@@ -1,6 +1,6 @@
 -- A least run is an optimal path. It is feasible since it is lawful; it is so short that its value stays below the ceiling, so
 -- its total is its value; and each feasible path is a lawful run, whose total is at most its value.
-use Rattle.std.proofs.Common.{◌≡◌, ℕ, ◌+◌, ◌*◌, ◌<◌, ◌≤◌, min, true, leb, List, length, take, Ok, Err, Result, sym, ap, ◌∙◌, inl, inr, mul-le-mul, arith, MatchResult}
+use Rattle.std.proofs.Common.{◌≡◌, ℕ, ◌+◌, ◌*◌, ◌<◌, ◌≤◌, min, true, List, length, take, Ok, Err, Result, sym, ap, ◌∙◌, inl, inr, mul-le-mul, arith}
 use Rattle.std.proofs.lemmas.Bool.{leb-true}
 use Rattle.refusal.specs.declared.Refusal.{Refusal}
 use Rattle.charge.specs.declared.money.Money.{Money}
@@ -10,7 +10,7 @@ use Rattle.survey.specs.Sealing.{sealed_contents}
 use Rattle.site.specs.declared.run.Step.{Step}
 use Rattle.site.specs.declared.run.Request.{Request}
 use Rattle.site.specs.Meaning.{Bounded}
-use Rattle.site.specs.Runs.{Least, NoneTwice, total}
+use Rattle.site.specs.Runs.{Least, NoneTwice}
 use Rattle.search.specs.Checks.{BoundStands}
 use Rattle.search.proofs.Stopping.{stopped_fails, stopped_other}
 use Rattle.search.specs.declared.cell.Row.{Row}
@@ -18,7 +18,7 @@ use Rattle.views.specs.SurveySite.{money_site}
 use Rattle.views.specs.Bounds.{sealed_bounded}
 use Rattle.planner.specs.declared.planned.Planned.{Planned}
 use Rattle.planner.specs.Outcome.{Outcome, Refused}
-use Rattle.relays.specs.Problem.{Feasible, value}
+use Rattle.relays.specs.Problem.{value}
 use Rattle.relays.specs.Answers.{Solved, Unsolved, Answered}
 use Rattle.relays.proofs.Lawful.{lawful_feasible, feasible_lawful}
 use Rattle.relays.proofs.Totals.{capped, total_capped}

@@ -5,12 +5,11 @@ use Rattle.std.specs.List.{slice_get}
 use Rattle.charge.specs.Moneys.{of_cents, money, sum_of}
 use Rattle.charge.specs.declared.money.Money.{Money}
 use Rattle.survey.specs.Contents.{Contents}
-use Rattle.site.specs.declared.way.Way.{Way}
 use Rattle.site.specs.declared.run.Step.{Step}
 use Rattle.site.specs.declared.run.Request.{Request}
 use Rattle.site.specs.Runs.{MarkAllowed, with_repeater, after_way, loss_after, Lawful, total_from}
 use Rattle.views.specs.SurveySite.{money_site}
-use Rattle.relays.specs.Problem.{arrival_at, price_at, price, arrival, relays, entered_at, relay_cents, relay_price, value}
+use Rattle.relays.specs.Problem.{arrival_at, price_at, price, arrival, relays, relay_cents, relay_price, value}
 use Rattle.relays.proofs.Lawful.{sum_front, entered_way, entered_relay}
 
 -- the cents n, or the ceiling where they are more

@@ -1,5 +1,6 @@
 // Planning for money over a sealed survey: the minimum cost path problem with relays. docs/RELAYS.md states the problem.
 #![tactic(auto)]
+
 ghost use Rattle.std.specs.Prelude.{length};
 ghost use Rattle.charge.specs.Moneys.{money};
 ghost use Rattle.survey.specs.Sealing.{sealed_contents};
