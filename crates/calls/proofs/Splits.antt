@@ -1,10 +1,9 @@
 -- The text of a call falls into its words at the spaces, since neither a name nor the digits of a number hold one.
-use Rattle.std.proofs.Common.{◌≡◌, ℕ, zero, suc, ◌^◌, ◌<◌, ◌≢◌, List, [], ◌∷◌, ◌++◌, length, get_or, decimal, Option, sym, refl, ◌∙◌, arith, MutBor, MatchOption}
+use Rattle.std.proofs.Common.{◌≡◌, ℕ, zero, suc, ◌^◌, ◌<◌, ◌≢◌, List, [], ◌∷◌, ◌++◌, length, get_or, decimal, Option, refl, ◌∙◌, arith, Bor, MatchOption}
 use Rattle.std.specs.List.{AllByRecursion as All}
 use Rattle.std.proofs.lemmas.Fmt.{decimal_is_IsNumeral}
 use Rattle.std.proofs.lemmas.Str.Parse.{digit_at}
 use Rattle.std.proofs.lemmas.Str.Pattern.{IsSplitOnceResult, split_after}
-use Rattle.site.specs.declared.run.Request.{Request}
 use Rattle.job.specs.declared.list.Call.{Call}
 use Rattle.job.specs.declared.list.Call.TheVariants.{Close, Reopen, Plan}
 use Rattle.calls.specs.Texts.{request_text, call_text}
@@ -41,7 +40,7 @@ name_whole (Close w) = ((λ e. omega arith), ((λ e. omega arith), ((λ e. omega
 name_whole (Reopen w) = ((λ e. omega arith), ((λ e. omega arith), ((λ e. omega arith), ((λ e. omega arith), ((λ e. omega arith), ((λ e. omega arith), tt))))))
 name_whole (Plan q) = ((λ e. omega arith), ((λ e. omega arith), ((λ e. omega arith), ((λ e. omega arith), tt))))
 
-pub split_call : (k : Call) (bs : List ℕ) (r : Option (MutBor (List ℕ) × MutBor (List ℕ))) → IsSplitOnceResult 32 bs r → bs ≡ call_text k → MatchOption r ⊥ (λ x. (x.0.now ≡ name_of k) × (x.1.now ≡ rest_of k))
+pub split_call : (k : Call) (bs : List ℕ) (r : Option (Bor (List ℕ) × Bor (List ℕ))) → IsSplitOnceResult 32 bs r → bs ≡ call_text k → MatchOption r ⊥ (λ x. (x.0.now ≡ name_of k) × (x.1.now ≡ rest_of k))
 split_call k bs r h e = split_after 32 bs (name_of k) (rest_of k) r h (omega arith) (e ∙ parts k) (none_at (name_of k) (name_whole k))
 
 -- a name that is none of the three is that of no call

@@ -2,7 +2,7 @@
 ghost use Rattle.std.specs.Prelude.{◌≡◌, ◌≤◌, [], ◌∷◌, ◌++◌, IfOk};
 ghost use Rattle.job.specs.declared.list.Call.TheVariants.{Plan};
 ghost use Rattle.job.specs.Replay.{calls_of};
-ghost use Rattle.std.specs.List.{AllByRecursion as All};
+ghost use Rattle.std.specs.List.{AllByRecursion};
 ghost use Rattle.calls.specs.Covering.{Covers};
 ghost use Rattle.calls.specs.Texts.{TextOf, CutAt};
 
@@ -104,7 +104,7 @@ impl Script {
     pub fn largest_bound(&self) -> usize
         ensures low { result ≤ 1000 }
         ensures last { Covers result (Plan self.now.last) }
-        ensures listed { All (λ e. Covers result e.call) self.now.entries.items }
+        ensures listed { AllByRecursion (λ e. Covers result e.call) self.now.entries.items }
     {
         let mut bound = larger_bound(0, Call::Plan(self.last));
         for entry in self.entries.as_slice() {

@@ -9,5 +9,5 @@ use Rattle.calls.proofs.script.read_script.Goals as goal
 
 pub returns-in-Plan : goal.returns-in-Plan
 returns-in-Plan c =
-    let read = IfOk-at_ok (λ v. TextOf c.args.text.now (calls_of (vec_items v))) c.in-Ok.is c.in-ok-entries.ensures in
+    let read = IfOk-at_ok (λ v. TextOf c.args.text.now (calls_of (vec_items v))) c.in-Ok.is c.in_ok-entries.ensures in
     subst (λ (calls : List Call). TextOf c.args.text.now calls) (ap calls_of c.in-Some.ensures.items ∙ calls_push (vec_items c.pop.new.self) c.in-Some.entry ∙ ap (λ (k : Call). calls_of (vec_items c.pop.new.self) ++ k ∷ []) c.in-Plan.is) read

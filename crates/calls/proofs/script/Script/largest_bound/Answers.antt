@@ -1,5 +1,5 @@
 -- A larger bound covers what a smaller one covers; after the last entry all are covered.
-use Rattle.std.proofs.Common.{◌≡◌, ◌<◌, ◌≤◌, List, length, get_or, vec_items, sym, ap, subst, arith}
+use Rattle.std.proofs.Common.{◌≡◌, ◌<◌, ◌≤◌, List, length, get_or, vec_items, subst}
 use Rattle.std.proofs.lemmas.List.Elements.{AllWithin-upto}
 use Rattle.std.proofs.ByRecursion.{all_from_every}
 use Rattle.charge.specs.declared.money.Money.{Money}
@@ -12,21 +12,21 @@ use Rattle.calls.proofs.script.Script.largest_bound.Goals as goal
 pub loop-entry-preserved : goal.loop-entry-preserved
 loop-entry-preserved c =
     let es = vec_items c.args.self.now.entries in
-    let is : c.as-slice-entry-items.result.now ≡ es = c.as-slice-entry-items.ensures.value in
+    let is : c.as_slice-entry-items.result.now ≡ es = c.as_slice-entry-items.ensures.value in
     let a = c.loop-entry.bound in
-    let b = c.larger-bound-bound-in-loop-entry.result in
-    let grows = c.larger-bound-bound-in-loop-entry.ensures.grows in
+    let b = c.larger_bound-bound-in-loop-entry.result in
+    let grows = c.larger_bound-bound-in-loop-entry.ensures.grows in
     let i = c.loop-entry.entry-index in
     let inside : i < length es = subst (λ (xs : List (Entry Money)). i < length xs) is c.loop-entry-test.true in (
-      c.larger-bound-bound-in-loop-entry.ensures.low,
+      c.larger_bound-bound-in-loop-entry.ensures.low,
       covers_more a b (Plan c.args.self.now.last) grows c.loop-entry.invariant.1,
-      covers_next es i a b _ inside grows c.loop-entry.invariant.2 (subst (λ (xs : List (Entry Money)). Covers b (get_or xs i _).call) is c.larger-bound-bound-in-loop-entry.ensures.covers),
+      covers_next es i a b _ inside grows c.loop-entry.invariant.2 (subst (λ (xs : List (Entry Money)). Covers b (get_or xs i _).call) is c.larger_bound-bound-in-loop-entry.ensures.covers),
     )
 
 pub returns : goal.returns
 returns c =
     let es = vec_items c.args.self.now.entries in
-    let is : c.as-slice-entry-items.result.now ≡ es = c.as-slice-entry-items.ensures.value in
+    let is : c.as_slice-entry-items.result.now ≡ es = c.as_slice-entry-items.ensures.value in
     let past : length es ≤ c.loop-entry.entry-index = subst (λ (xs : List (Entry Money)). length xs ≤ c.loop-entry.entry-index) is c.loop-entry-test.false in
     record {
       low = c.loop-entry.invariant.0;
