@@ -4,6 +4,7 @@
 // the text is "close W", "reopen W" or "plan START END BOUND". A text that cannot be read is told with the number of its
 // line, and then nothing is tried.
 #![tactic(auto)]
+
 use calls::script::{Script, read_script};
 use input::print_fault;
 use std::{env, fs};
