@@ -1,5 +1,5 @@
 -- The text of a call on a job, as bytes. Stands on the calls and on decimal numbers.
-use Rattle.std.specs.Prelude.{◌≡◌, ℕ, ◌^◌, ◌<◌, ◌⊎◌, List, [], ◌∷◌, ◌++◌, decimal, ◌≢◌}
+use Rattle.std.specs.Prelude.{◌≡◌, ℕ, ◌^◌, ◌<◌, ◌≢◌, ◌⊎◌, List, [], ◌∷◌, ◌++◌, length, decimal, slice_index}
 use Rattle.site.specs.declared.run.Request.{Request}
 use Rattle.job.specs.declared.list.Call.{Call}
 use Rattle.job.specs.declared.list.Call.TheVariants.{Close, Reopen, Plan}
@@ -48,3 +48,8 @@ TextOf text calls = (text ≡ lines_text calls) ⊎ (text ++ (10 ∷ []) ≡ lin
 -- a text cut behind its first line feed, or the whole of it where it has none
 abbrev pub CutAt : List ℕ → List ℕ → List ℕ → Type 0
 CutAt text line others = (text ≡ line ++ (10 ∷ others)) ⊎ ((text ≡ line) × (others ≡ []))
+
+-- the first line of a text, in which no line feed stands, and what stands behind it
+pub record FirstLine (text line others : List ℕ) : Type 0 where
+  pub cut : CutAt text line others
+  pub whole : (i : ℕ) → i < length line → slice_index line i ≢ 10

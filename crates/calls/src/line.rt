@@ -8,6 +8,7 @@ ghost use Rattle.calls.specs.Texts.{request_text, call_text, Counted, NoCall};
 use job::list::Call;
 use site::run::Request;
 use std::alloc::{AllocError, Global};
+use std::str::from_utf8;
 
 // The text of a call.
 pub fn text_of(heap: Global, call: Call) -> Result<String, AllocError>
@@ -78,5 +79,15 @@ pub fn read_call(heap: Global, line: &str) -> Result<Option<Call>, AllocError>
                 Ok(None)
             }
         }
+    }
+}
+
+// The same of bytes; a line that is not UTF-8 is the text of no call.
+pub fn read_line(heap: Global, line: &[u8]) -> Result<Option<Call>, AllocError>
+    ensures { IfOk result (λ o. MatchOption o (NoCall line.now) (λ c. line.now ≡ call_text c)) }
+{
+    match from_utf8(line) {
+        Ok(text) => read_call(heap, text),
+        Err(_) => Ok(None),
     }
 }

@@ -1,12 +1,13 @@
 // A whole text: the calls that are tried, and the plan that is made at the end.
-ghost use Rattle.std.specs.Prelude.{◌≡◌, ◌≤◌, [], ◌∷◌, ◌++◌, IfOk};
+ghost use Rattle.std.specs.Prelude.{◌≡◌, ℕ, ◌<◌, ◌≤◌, ◌≢◌, [], ◌∷◌, ◌++◌, length, IfOk, MatchOption, MatchResult, slice_index};
 ghost use Rattle.job.specs.declared.list.Call.TheVariants.{Plan};
 ghost use Rattle.job.specs.Replay.{calls_of};
 ghost use Rattle.std.specs.List.{AllByRecursion};
 ghost use Rattle.calls.specs.Covering.{Covers};
-ghost use Rattle.calls.specs.Texts.{TextOf, CutAt};
+ghost use Rattle.calls.specs.Texts.{TextOf, FirstLine};
+ghost use Rattle.calls.specs.Scripts.{AllUntried, NotPlan, EndTrouble, TroubleOf, ScriptOf};
 
-use crate::line::read_call;
+use crate::line::read_line;
 use charge::money::Money;
 use job::list::{Answer, Call, Entry};
 use site::run::Request;
@@ -22,62 +23,107 @@ pub struct Script {
 // why a text is not a script
 #[derive(Clone, Copy, Debug)]
 pub enum Trouble {
-    // the line with this number, from 1, is the text of no call
+    // the line with this number, from 1, is the first that is the text of no call
     NoCall(u64),
-    // the last line, with this number, is no plan
+    // every line is the text of a call, but the last, with this number, is no plan
     NoPlan(u64),
     // there are no lines
     NoLines,
 }
 
-// The first line of a text, and what stands behind its line feed.
-fn cut_line(text: &str) -> (&str, &str)
-    ensures { CutAt text.now result.0.now result.1.now }
+// Where the first line feed stands, or the length of a text that has none.
+fn feed_at(text: &[u8]) -> usize
+    ensures within { result ≤ length text.now }
+    ensures before { (k : ℕ) → k < result → slice_index text.now k ≢ 10 }
+    ensures found { result < length text.now → slice_index text.now result ≡ 10 }
 {
-    match text.split_once('\n') {
-        Some((line, others)) => (line, others),
-        None => (text, ""),
+    for (i, byte) in text.iter().enumerate() {
+        if *byte == b'\n' {
+            return i;
+        }
+    }
+    text.len()
+}
+
+// The first line of a text, and what stands behind its line feed.
+fn cut_line(text: &[u8]) -> (&[u8], &[u8])
+    ensures { FirstLine text.now result.0.now result.1.now }
+{
+    let at = feed_at(text);
+    if at < text.len() {
+        (&text[..at], &text[at + 1..])
+    } else {
+        (text, &text[at..])
     }
 }
 
-// The calls of the lines, in their order, or the number of the first line that is none.
-fn read_lines(heap: Global, text: &str) -> Result<Result<Vec<Entry<Money>>, Trouble>, AllocError>
-    ensures { IfOk result (λ s. IfOk s (λ v. TextOf text.now (calls_of v.items))) }
+// The calls of the lines, in their order, none of them tried yet, or the number of the first line that is none.
+fn read_lines(heap: Global, text: &[u8]) -> Result<Result<Vec<Entry<Money>>, Trouble>, AllocError>
+    ensures { IfOk result (λ s. MatchResult s (λ v. TextOf text.now (calls_of v.items) × AllUntried v.items) (λ t. TroubleOf text.now t)) }
 {
     let mut entries = Vec::new(heap);
-    let mut number: u64 = 0;
+    let mut number: usize = 0;
     let mut rest = text;
     while !rest.is_empty() {
-        number = number.saturating_add(1);
+        number += 1;
         let (line, others) = cut_line(rest);
-        match read_call(heap, line)? {
+        match read_line(heap, line)? {
             Some(call) => entries.push(Entry {
                 call,
                 answer: Answer::Untried,
             })?,
-            None => return Ok(Err(Trouble::NoCall(number))),
+            None => return Ok(Err(Trouble::NoCall(number as u64))),
         }
         rest = others;
     }
     Ok(Ok(entries))
 }
 
+// The request of a plan, or none where the call is no plan.
+fn request_of(call: Call) -> Option<Request>
+    ensures { MatchOption result (NotPlan call) (λ q. call ≡ Plan q) }
+{
+    match call {
+        Call::Plan(request) => Some(request),
+        Call::Close(_) => None,
+        Call::Reopen(_) => None,
+    }
+}
+
+// The script of the calls that were read: the last of them has to be a plan.
+fn script_of(entries: Vec<Entry<Money>>) -> Result<Script, Trouble>
+    ensures { MatchResult result (λ s. (calls_of entries.items ≡ calls_of s.entries.items ++ Plan s.last ∷ []) × (AllUntried entries.items → AllUntried s.entries.items)) (λ t. EndTrouble (calls_of entries.items) t) }
+{
+    let mut listed = entries;
+    let lines = listed.len() as u64;
+    match listed.pop() {
+        None => Err(Trouble::NoLines),
+        Some(entry) => match request_of(entry.call) {
+            Some(last) => Ok(Script {
+                entries: listed,
+                last,
+            }),
+            None => Err(Trouble::NoPlan(lines)),
+        },
+    }
+}
+
+// The script of the bytes of a text, or why they are none.
+pub fn read_script_bytes(heap: Global, text: &[u8]) -> Result<Result<Script, Trouble>, AllocError>
+    ensures { IfOk result (λ s. MatchResult s (λ script. ScriptOf text.now script) (λ t. TroubleOf text.now t)) }
+{
+    match read_lines(heap, text)? {
+        Ok(entries) => Ok(script_of(entries)),
+        Err(trouble) => Ok(Err(trouble)),
+    }
+}
+
 // The script of a text, or why it is none.
 pub fn read_script(heap: Global, text: &str) -> Result<Result<Script, Trouble>, AllocError>
-    ensures { IfOk result (λ s. IfOk s (λ script. TextOf text.now (calls_of script.entries.items ++ Plan script.last ∷ []))) }
+    ensures script { IfOk result (λ s. IfOk s (λ script. TextOf text.now (calls_of script.entries.items ++ Plan script.last ∷ []))) }
+    ensures whole { IfOk result (λ s. MatchResult s (λ script. ScriptOf text.now script) (λ t. TroubleOf text.now t)) }
 {
-    let mut entries = match read_lines(heap, text)? {
-        Ok(entries) => entries,
-        Err(trouble) => return Ok(Err(trouble)),
-    };
-    let lines = entries.len() as u64;
-    match entries.pop() {
-        Some(entry) => match entry.call {
-            Call::Plan(last) => Ok(Ok(Script { entries, last })),
-            _ => Ok(Err(Trouble::NoPlan(lines))),
-        },
-        None => Ok(Err(Trouble::NoLines)),
-    }
+    read_script_bytes(heap, text.as_bytes())
 }
 
 // The larger of a bound and that of a call, if it is a plan with a bound that can be asked for.
