@@ -1,7 +1,7 @@
 -- Which script a text is, and why a text is none: the first line that is the text of no call, or a last call that is no plan,
 -- or no line at all. Stands on the texts of calls.
 use Rattle.std.specs.Prelude.{◌≡◌, ℕ, ◌+◌, List, [], ◌∷◌, ◌++◌, length, vec_items}
-use Rattle.std.specs.List.{AllByRecursion as All}
+use Rattle.std.specs.List.{AllByRecursion}
 use Rattle.charge.specs.declared.money.Money.{Money}
 use Rattle.job.specs.declared.list.Call.{Call}
 use Rattle.job.specs.declared.list.Call.TheVariants.{Close, Reopen, Plan}
@@ -15,7 +15,7 @@ use Rattle.calls.specs.Texts.{NoCall, lines_text, TextOf, FirstLine}
 
 -- none of the entries is tried yet
 abbrev pub AllUntried : List (Entry Money) → Type 0
-AllUntried entries = All (λ e. e.answer ≡ Untried) entries
+AllUntried entries = AllByRecursion (λ e. e.answer ≡ Untried) entries
 
 -- the text is that of the script's calls and its plan behind them, and none of them is tried yet
 pub record ScriptOf (text : List ℕ) (s : Script) : Type 0 where

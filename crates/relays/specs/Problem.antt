@@ -3,7 +3,7 @@
 -- ceiling, nor of how a plan is made. A path is told by its steps: each has the number of a way, and says whether a repeater
 -- is set where the way arrives.
 use Rattle.std.specs.Prelude.{◌≡◌, ℕ, ◌+◌, ◌≤◌, cond, ◌≢◌, List, [], ◌∷◌, map, Some, None, sum, Option}
-use Rattle.std.specs.List.{slice_get, AllByRecursion as All}
+use Rattle.std.specs.List.{slice_get, AllByRecursion}
 use Rattle.survey.specs.declared.entry.Place.{Place}
 use Rattle.survey.specs.declared.entry.WayEntry.{WayEntry}
 use Rattle.survey.specs.Contents.{Contents}
@@ -69,8 +69,8 @@ pub record RelayStands (c : Contents) (q : Request) (p : ℕ) : Type 0 where
 
 pub record Feasible (c : Contents) (q : Request) (run : List Step) : Type 0 where
   pub path : Path c q.start q.end run
-  pub relays_stand : All (RelayStands c q) (relays c run)
-  pub within_bound : All (λ losses. sum losses ≤ q.bound) (stretches c run)
+  pub relays_stand : AllByRecursion (RelayStands c q) (relays c run)
+  pub within_bound : AllByRecursion (λ losses. sum losses ≤ q.bound) (stretches c run)
 
 -- no path is feasible
 abbrev pub Infeasible : Contents → Request → Type 0
