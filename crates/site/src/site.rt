@@ -13,7 +13,8 @@ pub trait Site {
     ghost meaning: { Self → SiteMeaning Self.Charge };
 
     // There are at most 4,096 places and 16,384 ways, and nothing past them; open ways join places and lose at most
-    // 65,535 tenths. Each site shows it. (A member and not a `law`, so that a site may borrow what it stands over.)
+    // 65,535 tenths. Each site shows it. (It stands with the data, above the functions, so that a site may borrow what it
+    // stands over.)
     ghost bounded: { (s : Self) → Bounded (meaning s) };
 
     // How many places there are.

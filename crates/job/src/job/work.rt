@@ -53,7 +53,8 @@ impl<S> Job<S> {
 
 // A mark for each way number that a site can have, all of them open.
 pub(crate) fn open_marks(heap: Global) -> Result<Vec<bool>, AllocError>
-    ensures { IfOk result (λ v. (vec_len v ≡ 16384) × ((n : ℕ) → slice_index_or v.items n false ≡ false)) }
+    ensures full { IfOk result (λ v. vec_len v ≡ 16384) }
+    ensures open { IfOk result (λ v. (n : ℕ) → slice_index_or v.items n false ≡ false) }
 {
     let closed = vec![in heap; false; 16384]?;
     Ok(closed)

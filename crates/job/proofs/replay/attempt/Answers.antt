@@ -3,7 +3,7 @@
 use Rattle.std.proofs.Common.{◌≡◌, ℕ, sym, refl, ap, ◌∙◌, subst}
 use Rattle.site.specs.Whole.{kind_of}
 use Rattle.job.specs.declared.list.Call.{Call}
-use Rattle.job.specs.Book.{after_call}
+use Rattle.job.specs.Book.{closing, reopening, after_call}
 use Rattle.job.specs.Jobs.{site_below, closed_by}
 use Rattle.job.specs.Replay.{of_change, lent, Tried}
 use Rattle.job.proofs.replay.attempt.Goals as goal
@@ -17,7 +17,7 @@ returns-in-Close g c =
     record {
       below = c.close.ensures.below;
       book = subst (λ (z : Call). (n : ℕ) → closed_by c.close.new.self n ≡ after_call m.ways closed z n) is c.close.ensures.marks;
-      tried = subst (λ (z : Call). Tried (kind_of g.S.Charge.Charge) g.Q.PriorityQueue.many m closed h h z c.of_change.result) is (c.of_change.ensures ∙ ap of_change c.close.ensures.answer, refl);
+      tried = subst (λ (z : Call). Tried (kind_of g.S.Charge.Charge) g.Q.PriorityQueue.many m closed h h z c.of_change.result) is (c.of_change.ensures ∙ ap of_change {y = closing m.ways closed c.in-Close.way} c.close.ensures.answer, refl);
     }
 
 pub returns-in-Reopen : goal.returns-in-Reopen
@@ -29,5 +29,5 @@ returns-in-Reopen g c =
     record {
       below = c.reopen.ensures.below;
       book = subst (λ (z : Call). (n : ℕ) → closed_by c.reopen.new.self n ≡ after_call m.ways closed z n) is c.reopen.ensures.marks;
-      tried = subst (λ (z : Call). Tried (kind_of g.S.Charge.Charge) g.Q.PriorityQueue.many m closed h h z c.of_change-in-Reopen.result) is (c.of_change-in-Reopen.ensures ∙ ap of_change c.reopen.ensures.answer, refl);
+      tried = subst (λ (z : Call). Tried (kind_of g.S.Charge.Charge) g.Q.PriorityQueue.many m closed h h z c.of_change-in-Reopen.result) is (c.of_change-in-Reopen.ensures ∙ ap of_change {y = reopening m.ways closed c.in-Reopen.way} c.reopen.ensures.answer, refl);
     }

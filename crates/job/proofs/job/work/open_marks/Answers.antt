@@ -1,5 +1,5 @@
 -- Every mark is made open, and past the marks none is read as closed.
-use Rattle.std.proofs.Common.{◌≡◌, ℕ, zero, suc, Bool, false, ◌⊎◌, List, [], ◌∷◌, get_or, vec_items, refl, ⊎_elim, rules}
+use Rattle.std.proofs.Common.{◌≡◌, ℕ, zero, suc, Bool, false, ◌⊎◌, List, [], ◌∷◌, get_or, vec_items, refl, ⊎_elim}
 use Rattle.std.specs.List.{AllByRecursion}
 use Rattle.job.proofs.job.work.open_marks.Goals as goal
 
@@ -8,5 +8,5 @@ all_open [] h n = refl
 all_open (x ∷ xs) h zero = ⊎_elim (λ e. e) (λ e. e) h.0
 all_open (x ∷ xs) h (suc n) = all_open xs h.1 n
 
-pub returns : goal.returns
-returns c = (search rules, all_open (vec_items c.in_ok-closed.closed) c.in_ok-closed.ensures.items)
+pub returns-clause-open : goal.returns-clause-open
+returns-clause-open c = all_open (vec_items c.in_ok-closed.closed) c.in_ok-closed.ensures.items
