@@ -34,10 +34,8 @@ impl Charge for Disturbance {
     }
 
     fn join(self, other: Disturbance) -> Disturbance {
-        if self.grade < other.grade {
-            other
-        } else {
-            self
+        Disturbance {
+            grade: self.grade.max(other.grade),
         }
     }
 

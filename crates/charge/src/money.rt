@@ -19,7 +19,7 @@ impl Money {
         ensures { result ≡ of_cents (min cents 4000000000000000000) }
     {
         Money {
-            cents: if cents > CEILING { CEILING } else { cents },
+            cents: cents.min(CEILING),
         }
     }
 
@@ -27,11 +27,7 @@ impl Money {
     pub fn counted(self) -> u64
         ensures { result ≡ figure self }
     {
-        if self.cents > CEILING {
-            CEILING
-        } else {
-            self.cents
-        }
+        self.cents.min(CEILING)
     }
 }
 

@@ -7,47 +7,47 @@ ghost use Rattle.refusal.specs.Numbers.{number};
 #[derive(Clone, Copy, Debug, PartialEq, Eq)]
 pub enum Refusal {
     // a field or a file that is cut short
-    CutShort,
+    CutShort = 1,
     // a tag that is unknown, or that stands in the wrong phase of the file
-    WrongTag,
+    WrongTag = 2,
     // a length that the tag does not have
-    WrongLength,
+    WrongLength = 3,
     // an edition other than 1
-    WrongEdition,
+    WrongEdition = 4,
     // a 257th place or a 1,025th way
-    DraftFull,
+    DraftFull = 5,
     // an end of a way that is no entered place, or both ends at one place
-    WrongEnds,
+    WrongEnds = 6,
     // a cable letter other than U, S and F
-    WrongLetter,
+    WrongLetter = 7,
     // over 200 metres
-    TooLong,
+    TooLong = 8,
     // a price over 1,000,000 cents
-    TooDear,
+    TooDear = 9,
     // bytes behind the end field
-    BytesBehind,
+    BytesBehind = 10,
     // a way number that is not below the number of ways
-    NoSuchWay,
+    NoSuchWay = 11,
     // a way that this job has closed already
-    AlreadyClosed,
+    AlreadyClosed = 12,
     // a way that this job has not closed
-    NotClosed,
+    NotClosed = 13,
     // a start or an end that is not below the number of places
-    NoSuchPlace,
+    NoSuchPlace = 14,
     // a bound of 0, or over 1,000
-    WrongBound,
+    WrongBound = 15,
     // too few rows
-    TooFewRows,
+    TooFewRows = 16,
     // no lawful run
-    NoRun,
+    NoRun = 17,
     // a sheet, a file or a refusal line that does not fit the bytes
-    NoRoom,
+    NoRoom = 18,
     // steps that are no lawful run
-    NotLawful,
+    NotLawful = 19,
     // a side of a grid of 0, or over 64
-    WrongSide,
+    WrongSide = 20,
     // a cell number that is not below the number of rows
-    NoSuchCell,
+    NoSuchCell = 21,
 }
 
 // A refusal met in a survey file: why, and how many bytes stand before the field in question.
@@ -62,28 +62,6 @@ impl Refusal {
     pub fn code(self) -> u8
         ensures { result ≡ number self }
     {
-        match self {
-            Refusal::CutShort => 1,
-            Refusal::WrongTag => 2,
-            Refusal::WrongLength => 3,
-            Refusal::WrongEdition => 4,
-            Refusal::DraftFull => 5,
-            Refusal::WrongEnds => 6,
-            Refusal::WrongLetter => 7,
-            Refusal::TooLong => 8,
-            Refusal::TooDear => 9,
-            Refusal::BytesBehind => 10,
-            Refusal::NoSuchWay => 11,
-            Refusal::AlreadyClosed => 12,
-            Refusal::NotClosed => 13,
-            Refusal::NoSuchPlace => 14,
-            Refusal::WrongBound => 15,
-            Refusal::TooFewRows => 16,
-            Refusal::NoRun => 17,
-            Refusal::NoRoom => 18,
-            Refusal::NotLawful => 19,
-            Refusal::WrongSide => 20,
-            Refusal::NoSuchCell => 21,
-        }
+        self as u8
     }
 }

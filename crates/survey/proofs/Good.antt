@@ -1,5 +1,5 @@
 -- Entries that have passed the checks stay good: behind a new place, with a new way behind them, and at another price.
-use Rattle.std.proofs.Common.{◌≡◌, ℕ, zero, suc, ◌+◌, ◌*◌, ◌/◌, ◌<◌, ◌≤◌, Bool, true, false, cond, eqb, ltb, leb, List, [], ◌∷◌, ◌++◌, length, get_or, set, is_ok, Some, None, Ok, Err, Result, sym, refl, ap, ◌∙◌, mul-le-mul, arith}
+use Rattle.std.proofs.Common.{◌≡◌, ℕ, zero, suc, ◌+◌, ◌*◌, ◌/◌, ◌<◌, ◌≤◌, Bool, true, false, cond, eqb, ltb, leb, List, [], ◌∷◌, ◌++◌, length, get_or, set, is_ok, is_some, IfSome, Some, None, Option, Ok, Err, Result, sym, refl, ap, ◌∙◌, mul-le-mul, arith}
 use Rattle.std.specs.List.{slice_get}
 use Rattle.std.proofs.lemmas.Bool.Decides.{nat_tests}
 use Rattle.refusal.specs.declared.Refusal.{Refusal}
@@ -10,8 +10,8 @@ use Rattle.survey.specs.declared.entry.WayEntry.{WayEntry}
 use Rattle.survey.specs.Checks.{then, price_check, place_check, ends_check, way_check, good_places, good_way, good_ways}
 use Rattle.survey.specs.Contents.{Contents}
 use Rattle.survey.specs.Edits.{priced, reprice_way, reprice}
-use Rattle.refusal.specs.declared.Refusal.TheVariants.{NoSuchWay, WrongEnds, WrongLetter, TooLong}
-use Rattle.std.proofs.lemmas.Option.{slice_get_read, slice_get_past}
+use Rattle.refusal.specs.declared.Refusal.TheVariants.{WrongEnds, WrongLetter, TooLong}
+use Rattle.std.proofs.lemmas.Option.{slice_get_read}
 
 -- a test of two parts passes only if both do
 pub cond_first : (a b : Bool) → cond a b false ≡ true → a ≡ true
@@ -79,31 +79,20 @@ ways_priced n (v ∷ ws) (suc i) w p h e k =
     cond_both (good_way n v) (good_ways n (set ws i (priced w p))) (cond_first (good_way n v) (good_ways n ws) h)
     (ways_priced n ws i w p (cond_second (good_way n v) (good_ways n ws) h) e k)
 
--- to write what stands there changes nothing
-pub set_same : {X : Type 0} (xs : List X) (i : ℕ) (x : X) → slice_get xs i ≡ Some x → set xs i x ≡ xs
-set_same [] i x h = refl
-set_same (y ∷ xs) zero x h = let same : y ≡ x = grind arith in ap (λ z. z ∷ xs) (sym same)
-set_same (y ∷ xs) (suc i) x h = ap (λ zs. y ∷ zs) (set_same xs i x h)
+-- what is lent by its number is the element of that number; `now` tells what is lent
+pub lent_at : {X M : Type 0} (now : M → X) (xs : List X) (n i : ℕ) (r : Option M) (m : M) → n ≡ length xs
+    → (is_some r ≡ ltb i n) × IfSome r (λ x. now x ≡ get_or xs i (now x)) → r ≡ Some m → slice_get xs i ≡ Some (now m)
+lent_at now xs n i None m e told is = let z : ◌≡◌ {A = ℕ} 0 1 = cc in absurd (omega arith)
+lent_at now xs n i (Some k) m e told is =
+    let below : i < n = grind (arith, nat_tests, told.0) in
+    let same : k ≡ m = cc in
+    slice_get_read xs n i (now k) e below told.1 ∙ ap (λ x. Some (now x)) same
 
--- an element that was lent is the one of its number
-pub lent_at : {X : Type 0} (xs : List X) (n i : ℕ) (x : X) → n ≡ length xs → true ≡ ltb i n → x ≡ get_or xs i x → slice_get xs i ≡ Some x
-lent_at xs n i x e h is = let below : i < n = grind (arith, nat_tests) in slice_get_read xs n i x e below is
-
-pub not_lent_at : {X : Type 0} (xs : List X) (n i : ℕ) → n ≡ length xs → false ≡ ltb i n → slice_get xs i ≡ None
-not_lent_at xs n i e h = let past : length xs ≤ i = grind (arith, nat_tests) in slice_get_past xs i past
-
--- the three ways in which repricing ends
+-- a way that stands there, at a price that passes, is repriced
 pub reprice_done : (c : Contents) (i p : ℕ) (w : WayEntry) (u : Unit {0}) → slice_get c.ways i ≡ Some w → Ok u ≡ price_check p
     → reprice c i p ≡ Ok (record { places = c.places; ways = set c.ways i (priced w p) })
 reprice_done c i p w u at passed =
     ap (reprice_way c i p) at ∙ ap (λ r. then r (λ _. Ok (record { places = c.places; ways = set c.ways i (priced w p) }))) (sym passed)
-
-pub reprice_dear : (c : Contents) (i p : ℕ) (w : WayEntry) (e : Refusal) → slice_get c.ways i ≡ Some w → Err e ≡ price_check p → reprice c i p ≡ Err e
-reprice_dear c i p w e at dear =
-    ap (reprice_way c i p) at ∙ ap (λ r. then r (λ _. Ok (record { places = c.places; ways = set c.ways i (priced w p) }))) (sym dear)
-
-pub reprice_none : (c : Contents) (i p : ℕ) → slice_get c.ways i ≡ None → reprice c i p ≡ Err NoSuchWay
-reprice_none c i p at = ap (reprice_way c i p) at
 
 -- each of the ways of a list that is good is good
 pub way_good : (n : ℕ) (ws : List WayEntry) (i : ℕ) (w : WayEntry) → good_ways n ws ≡ true → slice_get ws i ≡ Some w → good_way n w ≡ true

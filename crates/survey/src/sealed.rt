@@ -51,4 +51,20 @@ impl Sealed {
     {
         self.draft.way(number)
     }
+
+    // All places, by their numbers.
+    pub fn all_places(&self) -> &[Place]
+        ensures value { result.now ≡ (sealed_contents self.now).places }
+        ensures few { length result.now ≤ 256 }
+    {
+        self.draft.all_places()
+    }
+
+    // All ways, by their numbers.
+    pub fn all_ways(&self) -> &[WayEntry]
+        ensures value { result.now ≡ (sealed_contents self.now).ways }
+        ensures few { length result.now ≤ 1024 }
+    {
+        self.draft.all_ways()
+    }
 }

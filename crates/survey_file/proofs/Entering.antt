@@ -1,41 +1,38 @@
--- A record that was read is entered into the draft: what the reader answers, and what the draft then holds, are what
--- the decoder says. By cases on whether the draft takes the entry.
-use Rattle.std.proofs.Common.{◌≡◌, ℕ, IfOk, Ok, Err, Result, sym, refl, ap, ◌∙◌, subst}
+-- What a field says is entered into the draft: the state that the reader answers is what the decoder says. By cases on
+-- whether the draft takes the entry.
+use Rattle.std.proofs.Common.{◌≡◌, ℕ, Ok, Err, Result, refl, ap, ◌∙◌}
 use Rattle.refusal.specs.declared.Refusal.{Refusal}
 use Rattle.refusal.specs.declared.Fault.{Fault}
 use Rattle.survey.specs.Contents.{Contents}
 use Rattle.survey.specs.Checks.{then}
-use Rattle.survey.specs.Edits.{given, left}
+use Rattle.survey.specs.Edits.{given}
 use Rattle.survey_file.specs.declared.reader.Phase.{Phase}
 use Rattle.survey_file.specs.declared.reader.State.{State}
-use Rattle.survey_file.specs.Fields.{located}
-use Rattle.survey_file.specs.Decode.{Turned, to, state_of, contents_of}
+use Rattle.survey_file.specs.declared.record.Record.{Record}
+use Rattle.survey_file.specs.Fields.{fault_of, located}
+use Rattle.survey_file.specs.Decode.{Turned, to, state_of}
 
--- what holds of the state holds where one is answered
-goes_on : {X : Type 0} (P : State → Type 0) (s : State) (r : Result X Fault) (moved : Result State Fault) → moved ≡ given s r → P s → IfOk moved P
-goes_on P s (Ok x) moved is h = subst (λ m. IfOk m P) (sym is) h
-goes_on P s (Err e) moved is h = subst (λ m. IfOk m P) (sym is) tt
+-- what a draft with the contents c makes of a record, behind which the reader has come to p
+module _ {E : Type 0} (entered : Contents → E → Result Contents Refusal) (c : Contents) (p : Phase) (at : ℕ) where
+  abbrev pub entering : Result (Record E) Fault → Result Turned Fault
+  entering r = then r (λ x. then (located (entered c x.entry) at) (λ d. Ok (to p x.next d)))
 
--- a record of which `edit` says what it does to the draft, and `next` where the next field begins
-module _ {X : Type 0} (edit : X → Result Contents Refusal) (next : X → ℕ) (p : Phase) (at : ℕ) where
-  abbrev pub entering : Result X Fault → Result Turned Fault
-  entering r = then r (λ x. then (located (edit x) at) (λ d. Ok (to p (next x) d)))
+  abbrev pub behind : Record E → State
+  behind x = record { phase = p; at = x.next }
 
-  state_of_located : (n : ℕ) (m : ℕ) (e : Result Contents Refusal)
-      → given (record { phase = p; at = m }) (located (given n e) at) ≡ state_of (then (located e at) (λ d. Ok (to p m d)))
-  state_of_located n m (Ok d) = refl
-  state_of_located n m (Err e) = refl
+  taken_by : (s : State) (e : Result Contents Refusal) → Ok s ≡ given s e → Ok s ≡ state_of (then (located e at) (λ d. Ok (record { state = s; entered = d })))
+  taken_by s (Ok d) taken = refl
+  taken_by s (Err e) taken = cc
 
-  left_by : (c : Contents) (m : ℕ) (e : Result Contents Refusal) → left c e ≡ contents_of c (then (located e at) (λ d. Ok (to p m d)))
-  left_by c m (Ok d) = refl
-  left_by c m (Err e) = refl
+  refused_by : (s : State) (e : Result Contents Refusal) (why : Refusal) → Err why ≡ given s e
+      → Err (fault_of why at) ≡ state_of (then (located e at) (λ d. Ok (record { state = s; entered = d })))
+  refused_by s (Ok d) why refused = cc
+  refused_by s (Err e) why refused = let same : why ≡ e = cc in ap (λ r. Err (fault_of r at)) same
 
-  -- what was read is entered: the state that is answered, what the draft then holds, and what holds of the state
-  pub entered_as : (c after : Contents) (P : State → Type 0) (r : Result X Fault) (x : X) (n : ℕ) (answer : Result ℕ Refusal) (moved : Result State Fault) → Ok x ≡ r
-      → answer ≡ given n (edit x) → after ≡ left c (edit x) → moved ≡ given (record { phase = p; at = next x }) (located answer at) → P (record { phase = p; at = next x })
-      → (moved ≡ state_of (entering r)) × (after ≡ contents_of c (entering r)) × IfOk moved P
-  entered_as c after P r x n answer moved read entered held is goes = (
-    is ∙ ap (λ a. given (record { phase = p; at = next x }) (located a at)) entered ∙ state_of_located n (next x) (edit x) ∙ ap (λ s. state_of (entering s)) read,
-    held ∙ left_by c (next x) (edit x) ∙ ap (λ s. contents_of c (entering s)) read,
-    goes_on P _ (located answer at) moved is goes,
-  )
+  -- an entry that the draft takes, and one that it refuses
+  pub entry_taken : (r : Result (Record E) Fault) (x : Record E) → Ok x ≡ r → Ok (behind x) ≡ given (behind x) (entered c x.entry) → Ok (behind x) ≡ state_of (entering r)
+  entry_taken r x read taken = taken_by (behind x) (entered c x.entry) taken ∙ ap (λ q. state_of (entering q)) read
+
+  pub entry_refused : (r : Result (Record E) Fault) (x : Record E) (why : Refusal) → Ok x ≡ r → Err why ≡ given (behind x) (entered c x.entry)
+      → Err (fault_of why at) ≡ state_of (entering r)
+  entry_refused r x why read refused = refused_by (behind x) (entered c x.entry) why refused ∙ ap (λ q. state_of (entering q)) read

@@ -12,7 +12,7 @@ use Rattle.survey.specs.Checks.{then, place_check, way_check}
 use Rattle.survey.specs.Contents.{Contents, no_contents}
 use Rattle.survey.specs.Edits.{of_repeater, add_place, add_way}
 use Rattle.survey_file.specs.declared.field.Head.{Head}
-use Rattle.survey_file.specs.declared.record.PlaceRecord.{PlaceRecord}
+use Rattle.survey_file.specs.declared.record.Record.{Record}
 use Rattle.survey_file.specs.declared.reader.Phase.TheVariants as phase
 use Rattle.survey_file.specs.declared.reader.State.{State}
 use Rattle.survey_file.specs.Fields.{fault, located, two_at, four_at, head_at, body_at}
@@ -174,21 +174,21 @@ module _ (bs : List ℕ) (small : (i : ℕ) → get_or bs i 0 < 256) where
       ∙ ap (λ ys. ys ++ drop next bs) (sym (is (found at t n (sym tag ∙ hd.tag) (sym bd.long ∙ hd.long) few)))
 
   -- what an accepted record brings: its entry, and behind it the next place
-  place_read : (b : Bool) (at : ℕ) (h : Head) (p : PlaceRecord) → Headed at h → h.tag ≡ 2 → eqb h.length 0 ≡ b
-      → cond b (Ok (record { repeater = None; next = at + 3 })) (then (body_at bs at h 4) (λ next. Ok (record { repeater = Some (four_at bs (at + 3)); next = next }))) ≡ Ok p
-      → (drop at bs ≡ repeater_field p.repeater ++ drop p.next bs) × (p.next ≤ length bs)
+  place_read : (b : Bool) (at : ℕ) (h : Head) (p : Record Place) → Headed at h → h.tag ≡ 2 → eqb h.length 0 ≡ b
+      → cond b (Ok (record { entry = of_repeater None; next = at + 3 })) (then (body_at bs at h 4) (λ next. Ok (record { entry = of_repeater (Some (four_at bs (at + 3))); next = next }))) ≡ Ok p
+      → (drop at bs ≡ place_field p.entry ++ drop p.next bs) × (p.next ≤ length bs)
   place_read true at h p hd tag long e =
-      let same : record { repeater = None; next = at + 3 } ≡ p = cc in
+      let same : record { entry = of_repeater None; next = at + 3 } ≡ p = cc in
       let some = hd.enough in
       let bd : Bodied at h 0 (at + 3) = record { long = eqb-true h.length 0 long; next_is = omega arith; inside = omega arith } in
-      subst (λ x. (drop at bs ≡ repeater_field x.repeater ++ drop x.next bs) × (x.next ≤ length bs)) same
+      subst (λ x. (drop at bs ≡ place_field x.entry ++ drop x.next bs) × (x.next ≤ length bs)) same
       (field at 2 0 (at + 3) h (repeater_field None) hd bd tag (omega arith) (blank_bytes at), bd.inside)
   place_read false at h p hd tag long e =
-      let q = then_ok (body_at bs at h 4) (λ next. Ok (record { repeater = Some (four_at bs (at + 3)); next = next })) p e in
+      let q = then_ok (body_at bs at h 4) (λ next. Ok (record { entry = of_repeater (Some (four_at bs (at + 3))); next = next })) p e in
       let last = q.2 in
-      let same : record { repeater = Some (four_at bs (at + 3)); next = q.0 } ≡ p = cc in
+      let same : record { entry = of_repeater (Some (four_at bs (at + 3))); next = q.0 } ≡ p = cc in
       let bd = body_ok at h 4 q.0 hd q.1 in
-      subst (λ x. (drop at bs ≡ repeater_field x.repeater ++ drop x.next bs) × (x.next ≤ length bs)) same
+      subst (λ x. (drop at bs ≡ place_field x.entry ++ drop x.next bs) × (x.next ≤ length bs)) same
       (field at 2 4 q.0 h (repeater_field (Some (four_at bs (at + 3)))) hd bd tag (omega arith) (price_bytes at), bd.inside)
 
   -- an accepted field: its entry, the next place, and what the reader makes of it
@@ -202,13 +202,13 @@ module _ (bs : List ℕ) (small : (i : ℕ) → get_or bs i 0 < 256) where
   step_place : (at : ℕ) (c : Contents) (h : Head) (t : Turned) → Headed at h → h.tag ≡ 2 → enter_place bs at h c ≡ Ok t
       → Step place_field at (λ p n. to phase.Places n (with_places c (p ∷ []))) t
   step_place at c h t hd tag e =
-      let q = then_ok (place_at bs at h) (λ p. then (located (add_place c p.repeater) at) (λ d. Ok (to phase.Places p.next d))) t e in
-      let r = then_ok (located (add_place c q.0.repeater) at) (λ d. Ok (to phase.Places q.0.next d)) t q.2 in
-      let taken = located_ok (add_place c q.0.repeater) at r.0 r.1 in
+      let q = then_ok (place_at bs at h) (λ p. then (located (add_place c p.entry.repeater) at) (λ d. Ok (to phase.Places p.next d))) t e in
+      let r = then_ok (located (add_place c q.0.entry.repeater) at) (λ d. Ok (to phase.Places q.0.next d)) t q.2 in
+      let taken = located_ok (add_place c q.0.entry.repeater) at r.0 r.1 in
       let read = place_read (eqb h.length 0) at h q.0 hd tag refl q.1 in
-      let entered = place_entered c q.0.repeater r.0 taken in
+      let entered = place_entered c q.0.entry.repeater r.0 taken in
       record {
-        entry = of_repeater q.0.repeater;
+        entry = q.0.entry;
         next = q.0.next;
         bytes = read.0;
         inside = read.1;
@@ -218,16 +218,16 @@ module _ (bs : List ℕ) (small : (i : ℕ) → get_or bs i 0 < 256) where
   step_way : (at : ℕ) (c : Contents) (h : Head) (t : Turned) → Headed at h → h.tag ≡ 3 → enter_way bs at h c ≡ Ok t
       → Step way_field at (λ w n. to phase.Ways n (with_ways c (w ∷ []))) t
   step_way at c h t hd tag e =
-      let q = then_ok (way_at bs at h) (λ w. then (located (add_way c w.way) at) (λ d. Ok (to phase.Ways w.next d))) t e in
-      let r = then_ok (located (add_way c q.0.way) at) (λ d. Ok (to phase.Ways q.0.next d)) t q.2 in
-      let entered = way_entered c q.0.way r.0 (located_ok (add_way c q.0.way) at r.0 r.1) in
+      let q = then_ok (way_at bs at h) (λ w. then (located (add_way c w.entry) at) (λ d. Ok (to phase.Ways w.next d))) t e in
+      let r = then_ok (located (add_way c q.0.entry) at) (λ d. Ok (to phase.Ways q.0.next d)) t q.2 in
+      let entered = way_entered c q.0.entry r.0 (located_ok (add_way c q.0.entry) at r.0 r.1) in
       let b = then_ok (body_at bs at h 12) (λ next. Ok (way_record (way_in bs (at + 3)) next)) q.0 q.1 in
       let same = ok_same (way_record (way_in bs (at + 3)) b.0) q.0 b.2 in
       let bd = body_ok at h 12 b.0 hd b.1 in
-      let read = subst (λ x. (drop at bs ≡ way_field x.way ++ drop x.next bs) × (x.next ≤ length bs)) same
+      let read = subst (λ x. (drop at bs ≡ way_field x.entry ++ drop x.next bs) × (x.next ≤ length bs)) same
       (field at 3 12 b.0 h (way_field (way_in bs (at + 3))) hd bd tag (omega arith) (way_bytes at), bd.inside) in
       record {
-        entry = q.0.way;
+        entry = q.0.entry;
         next = q.0.next;
         bytes = read.0;
         inside = read.1;

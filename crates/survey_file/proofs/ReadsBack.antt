@@ -14,7 +14,7 @@ use Rattle.survey.specs.Sealing.{sealed_contents}
 use Rattle.survey.specs.Edits.{of_repeater, add_place, add_way}
 use Rattle.survey.proofs.Good.{cond_first, cond_second}
 use Rattle.survey_file.specs.declared.field.Head.{Head}
-use Rattle.survey_file.specs.declared.record.WayRecord.{WayRecord}
+use Rattle.survey_file.specs.declared.record.Record.{Record}
 use Rattle.survey_file.specs.declared.reader.Phase.{Phase}
 use Rattle.survey_file.specs.declared.reader.Phase.TheVariants as phase
 use Rattle.survey_file.specs.declared.reader.State.{State}
@@ -122,26 +122,26 @@ turn_edition bs ys c h =
 
 -- what is read of a place, and what the draft makes of it
 place_entered : (bs : List ℕ) (at : ℕ) (c : Contents) (h : Head) (r : Option ℕ) (next : ℕ) → h.tag ≡ 2 → head_at bs at ≡ Ok h
-    → place_at bs at h ≡ Ok (record { repeater = r; next = next }) → length c.places < 256 → is_ok (place_check r) ≡ true
+    → place_at bs at h ≡ Ok (record { entry = of_repeater r; next = next }) → length c.places < 256 → is_ok (place_check r) ≡ true
     → turn_of bs (state phase.Places at) c ≡ Ok (to phase.Places next (with_places c (of_repeater r ∷ [])))
 place_entered bs at c h r next tag found read few good =
     turn_by bs (state phase.Places at) c h found
     ∙ ap (λ t. move_of phase.Places bs at (head t h.length) c) tag
-    ∙ ap (λ t. then (place_at bs at (head t h.length)) (λ p. then (located (add_place c p.repeater) at) (λ d. Ok (to phase.Places p.next d)))) (sym tag)
-    ∙ ap (λ x. then x (λ p. then (located (add_place c p.repeater) at) (λ d. Ok (to phase.Places p.next d)))) read
+    ∙ ap (λ t. then (place_at bs at (head t h.length)) (λ p. then (located (add_place c p.entry.repeater) at) (λ d. Ok (to phase.Places p.next d)))) (sym tag)
+    ∙ ap (λ x. then x (λ p. then (located (add_place c p.entry.repeater) at) (λ d. Ok (to phase.Places p.next d)))) read
     ∙ ap (λ x. then (located x at) (λ d. Ok (to phase.Places next d))) (place_taken c r few good)
 
 turn_place : (bs : List ℕ) (at : ℕ) (ys : List ℕ) (c : Contents) (r : Option ℕ) (next : ℕ) → Here bs at (repeater_field r ++ ys) → next ≡ at + length (repeater_field r)
     → length c.places < 256 → is_ok (place_check r) ≡ true → turn_of bs (state phase.Places at) c ≡ Ok (to phase.Places next (with_places c (of_repeater r ∷ [])))
 turn_place bs at ys c None next h n few good =
-    place_entered bs at c (head 2 0) None next refl (head_here bs at 2 0 ys h) (ap (λ m. Ok (record { repeater = None; next = m })) (sym n)) few good
+    place_entered bs at c (head 2 0) None next refl (head_here bs at 2 0 ys h) (ap (λ m. Ok (record { entry = of_repeater None; next = m })) (sym n)) few good
 turn_place bs at ys c (Some p) next h n few good =
     let price : four_at bs (at + 3) ≡ p = four_here bs at (repeater_field (Some p) ++ ys) (at + 3) 3 p h refl refl refl refl refl in
     let body = body_here bs at 2 4 (p / 16777216 ∷ p / 65536 % 256 ∷ p / 256 % 256 ∷ p % 256 ∷ ys) h (omega arith) in
     let behind : at + 3 + 4 ≡ next = omega arith in
     place_entered bs at c (head 2 4) (Some p) next refl (head_here bs at 2 4 (p / 16777216 ∷ p / 65536 % 256 ∷ p / 256 % 256 ∷ p % 256 ∷ ys) h)
-    (ap (λ x. then x (λ m. Ok (record { repeater = Some (four_at bs (at + 3)); next = m }))) body
-    ∙ ap (λ x. Ok (record { repeater = Some x; next = at + 3 + 4 })) price ∙ ap (λ m. Ok (record { repeater = Some p; next = m })) behind)
+    (ap (λ x. then x (λ m. Ok (record { entry = of_repeater (Some (four_at bs (at + 3))); next = m }))) body
+    ∙ ap (λ x. Ok (record { entry = of_repeater (Some x); next = at + 3 + 4 })) price ∙ ap (λ m. Ok (record { entry = of_repeater (Some p); next = m })) behind)
     few good
 
 -- a way may follow places and ways alike, and so may the end
@@ -152,7 +152,7 @@ Late phase.Ways = Unit {0}
 Late phase.Ended = ⊥
 
 late_way : (p : Phase) (bs : List ℕ) (at n : ℕ) (c : Contents) → Late p
-    → move_of p bs at (head 3 n) c ≡ then (way_at bs at (head 3 n)) (λ w. then (located (add_way c w.way) at) (λ d. Ok (to phase.Ways w.next d)))
+    → move_of p bs at (head 3 n) c ≡ then (way_at bs at (head 3 n)) (λ w. then (located (add_way c w.entry) at) (λ d. Ok (to phase.Ways w.next d)))
 late_way phase.Head bs at n c l = absurd l
 late_way phase.Places bs at n c l = refl
 late_way phase.Ways bs at n c l = refl
@@ -179,8 +179,8 @@ way_back bs at w ys h =
     (two_here bs at zs (at + 3 + 6) 9 w.metres h (omega arith) refl refl)
     (four_here bs at zs (at + 3 + 8) 11 w.price h (omega arith) refl refl refl refl)
 
-abbrev pub way_record : WayEntry → ℕ → WayRecord
-way_record w n = record { way = w; next = n }
+abbrev pub way_record : WayEntry → ℕ → Record WayEntry
+way_record w n = record { entry = w; next = n }
 
 turn_way : (p : Phase) (bs : List ℕ) (at : ℕ) (ys : List ℕ) (c : Contents) (w : WayEntry) → Late p → Here bs at (way_field w ++ ys)
     → length c.ways < 1024 → is_ok (way_check (length c.places) w) ≡ true → turn_of bs (state p at) c ≡ Ok (to phase.Ways (at + 15) (with_ways c (w ∷ [])))
@@ -189,7 +189,7 @@ turn_way p bs at ys c w late h few good =
     let behind : at + 3 + 12 ≡ at + 15 = omega arith in
     turn_by bs (state p at) c (head 3 12) (head_here bs at 3 12 (drop 3 (way_field w) ++ ys) h)
     ∙ late_way p bs at 12 c late
-    ∙ ap (λ x. then (then x (λ next. Ok (way_record (way_in bs (at + 3)) next))) (λ v. then (located (add_way c v.way) at) (λ d. Ok (to phase.Ways v.next d)))) body
+    ∙ ap (λ x. then (then x (λ next. Ok (way_record (way_in bs (at + 3)) next))) (λ v. then (located (add_way c v.entry) at) (λ d. Ok (to phase.Ways v.next d)))) body
     ∙ ap (λ v. then (located (add_way c v) at) (λ d. Ok (to phase.Ways (at + 3 + 12) d))) (way_back bs at w ys h)
     ∙ ap (λ x. then (located x at) (λ d. Ok (to phase.Ways (at + 3 + 12) d))) (way_taken c w few good)
     ∙ ap (λ n. Ok (to phase.Ways n (with_ways c (w ∷ [])))) behind

@@ -1,15 +1,18 @@
 -- The fields of a file, one behind the other: what one entry more adds, and how many bytes there are.
-use Rattle.std.proofs.Common.{◌≡◌, ℕ, zero, suc, ◌+◌, ◌*◌, ◌<◌, ◌≤◌, List, [], ◌∷◌, ◌++◌, length, take, Some, None, Ok, Err, Option, Result, sym, refl, ap, ◌∙◌, add-one, arith}
-use Rattle.std.specs.List.{slice_get, flat_map}
+use Rattle.std.proofs.Common.{◌≡◌, ℕ, zero, suc, ◌+◌, ◌*◌, ◌≤◌, true, List, [], ◌∷◌, ◌++◌, length, take, Some, None, Ok, Err, Option, Result, sym, refl, ap, ◌∙◌, add-one, arith}
+use Rattle.std.specs.List.{slice_get, All, flat_map}
 use Rattle.std.proofs.lemmas.List.{append-nil, append_assoc, length-append, take_all}
 use Rattle.refusal.specs.declared.Refusal.{Refusal}
 use Rattle.survey_file.proofs.Answering.{ok_same}
 use Rattle.byte_slices.specs.Lay.{placed, over}
 use Rattle.byte_slices.proofs.Laid.{placed_fits, over_none, over_length, over_more, Front, front_fits, front_more}
 use Rattle.byte_slices.proofs.Laid.{not_refused as refused-not}
+use Rattle.survey.specs.declared.entry.Place.{Place}
 use Rattle.survey.specs.declared.entry.WayEntry.{WayEntry}
 use Rattle.survey.specs.Contents.{Contents}
-use Rattle.survey_file.specs.Encode.{head_field, repeater_field, place_field, way_field, end_field, file_of}
+use Rattle.survey.specs.Checks.{good_way, good_ways}
+use Rattle.survey.proofs.Good.{cond_first, cond_second, way_passed, way_loss, letter_small}
+use Rattle.survey_file.specs.Encode.{head_field, repeater_field, place_field, way_field, letter_fits, end_field, file_of}
 
 joined_suc : {X : Type 0} (f : X → List ℕ) (xs : List X) (i : ℕ) (x : X) → slice_get xs i ≡ Some x → flat_map f (take (suc i) xs) ≡ flat_map f (take i xs) ++ f x
 joined_suc f [] i x h = let z : ◌≡◌ {A = ℕ} 0 1 = cc in absurd (omega arith)
@@ -19,22 +22,6 @@ joined_suc f (y ∷ xs) (suc i) x h = ap (λ ys. f y ++ ys) (joined_suc f xs i x
 -- the fields of the first entries, and one more
 pub joined_next : {X : Type 0} (f : X → List ℕ) (xs : List X) (i : ℕ) (x : X) → Some x ≡ slice_get xs i → flat_map f (take (i + 1) xs) ≡ flat_map f (take i xs) ++ f x
 joined_next f xs i x h = ap (λ n. flat_map f (take n xs)) (add-one i) ∙ joined_suc f xs i x (sym h)
-
--- each number below the length has its entry
-pub nth_there : {X : Type 0} (xs : List X) (i : ℕ) → i < length xs → (x : X) × (Some x ≡ slice_get xs i)
-nth_there [] i h = absurd (omega arith)
-nth_there (x ∷ xs) zero h = (x, refl)
-nth_there (x ∷ xs) (suc i) h = nth_there xs i (omega arith)
-
-take_past : {X : Type 0} (xs : List X) (i : ℕ) → slice_get xs i ≡ None → take (suc i) xs ≡ take i xs
-take_past [] zero h = refl
-take_past [] (suc i) h = refl
-take_past (y ∷ xs) zero h = cc
-take_past (y ∷ xs) (suc i) h = ap (λ ys. y ∷ ys) (take_past xs i h)
-
--- past the last entry there is no more
-pub joined_past : {X : Type 0} (f : X → List ℕ) (xs : List X) (i : ℕ) → None ≡ slice_get xs i → flat_map f (take (i + 1) xs) ≡ flat_map f (take i xs)
-joined_past f xs i h = ap (λ n. flat_map f (take n xs)) (add-one i) ∙ ap (flat_map f) (take_past xs i (sym h))
 
 pub place_long : (r : Option ℕ) → length (repeater_field r) ≤ 7
 place_long None = omega arith
@@ -50,6 +37,14 @@ file_long c =
     let b = length-append (flat_map way_field c.ways) end_field in
     let w = ways_long c.ways in
     omega arith
+
+-- the letter of a way that stands in a survey has passed the checks of the draft, so it is a byte
+pub letters_fit : (n : ℕ) (ws : List WayEntry) → good_ways n ws ≡ true → All letter_fits ws
+letters_fit n [] good k d below = absurd (omega arith)
+letters_fit n (w ∷ ws) good zero d below =
+    let cable = way_loss n w (way_passed n w (cond_first (good_way n w) (good_ways n ws) good)) in
+    letter_small w.letter w.metres cable.0 cable.1
+letters_fit n (w ∷ ws) good (suc k) d below = letters_fit n ws (cond_second (good_way n w) (good_ways n ws) good) k d (omega arith)
 
 -- the fields of the first i entries stand in the bytes, and the next place is behind them
 pub record Put {X : Type 0} (f : X → List ℕ) (xs : List X) (before : List ℕ) (start i at : ℕ) (out : List ℕ) : Type 0 where
@@ -106,6 +101,10 @@ module _ {X : Type 0} (f : X → List ℕ) (xs : List X) (before : List ℕ) (st
   put_all h =
       let all : take i xs ≡ take (length xs) xs = take_all i xs h ∙ sym (take_all (length xs) xs (omega arith)) in
       record { next = so_far.next ∙ ap (λ ys. start + length (flat_map f ys)) all; bytes = so_far.bytes ∙ ap (λ ys. over before start (flat_map f ys)) all }
+
+-- contents whose places and ways are those lists
+pub same_contents : (ps : List Place) (ws : List WayEntry) (c : Contents) → ps ≡ c.places → ws ≡ c.ways → record { places = ps; ways = ws } ≡ c
+same_contents ps ws c p w i = record { places = p i; ways = w i }
 
 -- the four parts of a file, laid one behind the other into bytes that have room for it
 module _ (before : List ℕ) (c : Contents) (room : length (file_of c) ≤ length before) where

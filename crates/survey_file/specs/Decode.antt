@@ -1,6 +1,7 @@
 -- What a survey file says: the contents that it reads as, or the fault that it is refused with. Stands on Records and
 -- on the edits of a draft.
 use Rattle.std.specs.Prelude.{ℕ, zero, suc, Bool, true, false, cond, List, length, Ok, Err, Result, ◌==◌}
+use Rattle.refusal.specs.declared.Refusal.{Refusal}
 use Rattle.refusal.specs.declared.Refusal.TheVariants.{CutShort, WrongTag}
 use Rattle.refusal.specs.declared.Fault.{Fault}
 use Rattle.survey.specs.Checks.{then}
@@ -10,6 +11,7 @@ use Rattle.survey_file.specs.declared.field.Head.{Head}
 use Rattle.survey_file.specs.declared.reader.Phase.{Phase}
 use Rattle.survey_file.specs.declared.reader.Phase.TheVariants as phase
 use Rattle.survey_file.specs.declared.reader.State.{State}
+use Rattle.survey_file.specs.declared.record.Record.{Record}
 use Rattle.survey_file.specs.Fields.{fault, located, head_at}
 use Rattle.survey_file.specs.Records.{edition_at, place_at, way_at, end_at}
 
@@ -21,18 +23,22 @@ pub record Turned : Type 0 where
 abbrev pub to : Phase → ℕ → Contents → Turned
 to p at c = record { state = record { phase = p; at = at }; entered = c }
 
--- the four records: each is read, then entered, and the reader moves on
+-- a record that enters nothing is read, and the reader moves on
 abbrev pub enter_edition : List ℕ → ℕ → Head → Contents → Result Turned Fault
 enter_edition bs at h c = then (edition_at bs at h) (λ next. Ok (to phase.Places next c))
 
-abbrev pub enter_place : List ℕ → ℕ → Head → Contents → Result Turned Fault
-enter_place bs at h c = then (place_at bs at h) (λ p. then (located (add_place c p.repeater) at) (λ d. Ok (to phase.Places p.next d)))
-
-abbrev pub enter_way : List ℕ → ℕ → Head → Contents → Result Turned Fault
-enter_way bs at h c = then (way_at bs at h) (λ w. then (located (add_way c w.way) at) (λ d. Ok (to phase.Ways w.next d)))
-
 abbrev pub enter_end : List ℕ → ℕ → Head → Contents → Result Turned Fault
 enter_end bs at h c = then (end_at bs at h) (λ next. Ok (to phase.Ended next c))
+
+-- an entry is read, as `said` says, then entered, and the reader moves on: it has come to p
+abbrev pub enter : {E : Type 0} → (List ℕ → ℕ → Head → Result (Record E) Fault) → (Contents → E → Result Contents Refusal) → Phase → List ℕ → ℕ → Head → Contents → Result Turned Fault
+enter said entered p bs at h c = then (said bs at h) (λ r. then (located (entered c r.entry) at) (λ d. Ok (to p r.next d)))
+
+abbrev pub enter_place : List ℕ → ℕ → Head → Contents → Result Turned Fault
+enter_place = enter place_at (λ c p. add_place c p.repeater) phase.Places
+
+abbrev pub enter_way : List ℕ → ℕ → Head → Contents → Result Turned Fault
+enter_way = enter way_at add_way phase.Ways
 
 -- what is accepted next depends on the phase and the tag together: the head first, then places, then ways, then the end
 abbrev pub move_of : Phase → List ℕ → ℕ → Head → Contents → Result Turned Fault

@@ -25,6 +25,13 @@ way_field w =
     ∷ w.metres / 256 ∷ w.metres % 256
     ∷ w.price / 16777216 ∷ w.price / 65536 % 256 ∷ w.price / 256 % 256 ∷ w.price % 256 ∷ []
 
+-- a place can always be written; a way where its letter is a byte
+abbrev pub anything : Place → Type 0
+anything p = Unit {0}
+
+abbrev pub letter_fits : WayEntry → Type 0
+letter_fits w = w.letter < 256
+
 -- tag 4, no body
 abbrev pub end_field : List ℕ
 end_field = 4 ∷ 0 ∷ 0 ∷ []

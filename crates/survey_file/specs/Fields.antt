@@ -7,8 +7,11 @@ use Rattle.refusal.specs.declared.Fault.{Fault}
 use Rattle.survey_file.specs.declared.field.Head.{Head}
 
 -- a refusal, with the bytes before the field
+abbrev pub fault_of : Refusal → ℕ → Fault
+fault_of r at = record { refusal = r; place = at }
+
 abbrev pub fault : {X : Type 0} → Refusal → ℕ → Result X Fault
-fault r at = Err (record { refusal = r; place = at })
+fault r at = Err (fault_of r at)
 
 -- the number in the two bytes from i on
 abbrev pub two_at : List ℕ → ℕ → ℕ

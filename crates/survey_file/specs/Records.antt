@@ -2,11 +2,12 @@
 use Rattle.std.specs.Prelude.{ℕ, ◌+◌, cond, List, length, Some, None, Ok, Result, ◌==◌, nat_lt, slice_index}
 use Rattle.refusal.specs.declared.Refusal.TheVariants.{WrongEdition, BytesBehind}
 use Rattle.refusal.specs.declared.Fault.{Fault}
+use Rattle.survey.specs.declared.entry.Place.{Place}
 use Rattle.survey.specs.declared.entry.WayEntry.{WayEntry}
+use Rattle.survey.specs.Edits.{of_repeater}
 use Rattle.survey.specs.Checks.{then}
 use Rattle.survey_file.specs.declared.field.Head.{Head}
-use Rattle.survey_file.specs.declared.record.PlaceRecord.{PlaceRecord}
-use Rattle.survey_file.specs.declared.record.WayRecord.{WayRecord}
+use Rattle.survey_file.specs.declared.record.Record.{Record}
 use Rattle.survey_file.specs.Fields.{fault, two_at, four_at, body_at}
 
 -- two bytes: the edition, which is 1
@@ -14,10 +15,10 @@ abbrev pub edition_at : List ℕ → ℕ → Head → Result ℕ Fault
 edition_at bs at h = then (body_at bs at h 2) (λ next. cond (two_at bs (at + 3) == 1) (Ok next) (fault WrongEdition at))
 
 -- no body is a blank; four bytes are the price of a repeater
-abbrev pub place_at : List ℕ → ℕ → Head → Result PlaceRecord Fault
+abbrev pub place_at : List ℕ → ℕ → Head → Result (Record Place) Fault
 place_at bs at h =
-    cond (h.length == 0) (Ok (record { repeater = None; next = at + 3 }))
-    (then (body_at bs at h 4) (λ next. Ok (record { repeater = Some (four_at bs (at + 3)); next = next })))
+    cond (h.length == 0) (Ok (record { entry = of_repeater None; next = at + 3 }))
+    (then (body_at bs at h 4) (λ next. Ok (record { entry = of_repeater (Some (four_at bs (at + 3))); next = next })))
 
 -- twelve bytes: from (2), to (2), letter (1), grade (1), metres (2), price (4)
 abbrev pub way_in : List ℕ → ℕ → WayEntry
@@ -30,8 +31,8 @@ way_in bs i = record {
   price = four_at bs (i + 8);
 }
 
-abbrev pub way_at : List ℕ → ℕ → Head → Result WayRecord Fault
-way_at bs at h = then (body_at bs at h 12) (λ next. Ok (record { way = way_in bs (at + 3); next = next }))
+abbrev pub way_at : List ℕ → ℕ → Head → Result (Record WayEntry) Fault
+way_at bs at h = then (body_at bs at h 12) (λ next. Ok (record { entry = way_in bs (at + 3); next = next }))
 
 -- no body, and no byte behind; the place of that fault counts the bytes before the first extra one
 abbrev pub end_at : List ℕ → ℕ → Head → Result ℕ Fault

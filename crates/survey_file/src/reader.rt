@@ -1,26 +1,33 @@
 // The reader goes through the fields of a file. Which tags it accepts depends on its phase.
 ghost use Rattle.std.specs.Prelude.{◌≡◌, ◌+◌, ◌<◌, ◌≤◌, length, IfOk, Ok, OnOk};
 ghost use Rattle.survey.specs.Contents.{contents, no_contents};
-ghost use Rattle.survey_file.specs.Fields.{located};
-ghost use Rattle.survey_file.specs.Decode.{ended, turn_of, state_of, contents_of, enter_place, enter_way, reached, decode};
+ghost use Rattle.survey_file.specs.Decode.{ended, turn_of, state_of, contents_of, enter, reached, decode};
 ghost use Rattle.survey_file.specs.Encode.{file_of};
 ghost use Rattle.survey_file.specs.Spare.{spare_contents};
 ghost use Rattle.survey.specs.Edits.{given, left};
-ghost use Rattle.survey_file.specs.Records.{edition_at, end_at};
 
-use crate::field::{Head, read_head};
-use crate::record::{read_edition, read_end, read_place, read_way};
+use crate::entry::Entry;
+use crate::field::{Field, read_head};
 use refusal::{Fault, Refusal};
 use std::alloc::{AllocError, Global};
 use survey::draft::Draft;
+use survey::entry::{Place, WayEntry};
 
 // What the reader has come to: the head is still to come; places, ways or the end; ways or the end; all was read.
-#[derive(Clone, Copy, Debug)]
+#[derive(Clone, Copy, Debug, PartialEq, Eq)]
 pub enum Phase {
     Head,
     Places,
     Ways,
     Ended,
+}
+
+impl Phase {
+    fn is_ended(self) -> bool
+        ensures { result ≡ ended self }
+    {
+        self == Phase::Ended
+    }
 }
 
 // The phase, and how many bytes were read.
@@ -30,87 +37,27 @@ pub struct State {
     pub at: usize,
 }
 
-fn is_ended(phase: Phase) -> bool
-    ensures { result ≡ ended phase }
+// A record that enters nothing was read, and the reader moves on behind it.
+fn reached(phase: Phase, next: Result<usize, Fault>) -> Result<State, Fault>
+    ensures { result ≡ reached phase next }
 {
-    match phase {
-        Phase::Ended => true,
-        _ => false,
-    }
+    next.map(|at| State { phase, at })
 }
 
-// The reader moves on where the draft took the entry; a refusal of the draft becomes a fault at the field.
-fn moved(entered: Result<usize, Refusal>, at: usize, to: State) -> Result<State, Fault>
-    ensures { result ≡ given to (located entered at) }
+// What a field says is entered into the draft, and the reader moves on behind it.
+fn enter<E: Entry>(field: &Field<'_>, draft: &mut Draft) -> Result<State, Fault>
+    ensures state { result ≡ state_of (enter E.Entry.said E.Entry.entered E.Entry.behind field.now.bytes.now field.now.at field.now.head (contents draft.old)) }
+    ensures draft { contents draft.new ≡ contents_of (contents draft.old) (enter E.Entry.said E.Entry.entered E.Entry.behind field.now.bytes.now field.now.at field.now.head (contents draft.old)) }
+    ensures goes { IfOk result (λ t. (field.now.at < t.at) × (t.at ≤ length field.now.bytes.now)) }
 {
-    match entered {
-        Ok(_) => Ok(to),
-        Err(refusal) => Err(Fault { refusal, place: at }),
-    }
-}
-
-// The place of a field is entered into the draft.
-fn enter_place(bytes: &[u8], at: usize, head: Head, draft: &mut Draft) -> Result<State, Fault>
-    requires { at + 3 ≤ length bytes.now }
-    ensures state { result ≡ state_of (enter_place bytes.now at head (contents draft.old)) }
-    ensures draft { contents draft.new ≡ contents_of (contents draft.old) (enter_place bytes.now at head (contents draft.old)) }
-    ensures goes { IfOk result (λ t. (at < t.at) × (t.at ≤ length bytes.now)) }
-{
-    let place = read_place(bytes, at, head)?;
-    let entered = draft.add_place(place.repeater);
-    moved(
-        entered,
-        at,
-        State {
-            phase: Phase::Places,
-            at: place.next,
-        },
-    )
-}
-
-// The way of a field is entered into the draft.
-fn enter_way(bytes: &[u8], at: usize, head: Head, draft: &mut Draft) -> Result<State, Fault>
-    requires { at + 3 ≤ length bytes.now }
-    ensures state { result ≡ state_of (enter_way bytes.now at head (contents draft.old)) }
-    ensures draft { contents draft.new ≡ contents_of (contents draft.old) (enter_way bytes.now at head (contents draft.old)) }
-    ensures goes { IfOk result (λ t. (at < t.at) × (t.at ≤ length bytes.now)) }
-{
-    let record = read_way(bytes, at, head)?;
-    let entered = draft.add_way(record.way);
-    moved(
-        entered,
-        at,
-        State {
-            phase: Phase::Ways,
+    let record = E::read(field)?;
+    match record.entry.enter(draft) {
+        Ok(_) => Ok(State {
+            phase: E::phase(),
             at: record.next,
-        },
-    )
-}
-
-// The edition is read, and places may follow.
-fn enter_edition(bytes: &[u8], at: usize, head: Head) -> Result<State, Fault>
-    requires { at + 3 ≤ length bytes.now }
-    ensures state { result ≡ reached Phase.Places (edition_at bytes.now at head) }
-    ensures goes { IfOk result (λ t. (at < t.at) × (t.at ≤ length bytes.now)) }
-{
-    let next = read_edition(bytes, at, head)?;
-    Ok(State {
-        phase: Phase::Places,
-        at: next,
-    })
-}
-
-// The end is read, and nothing may follow.
-fn enter_end(bytes: &[u8], at: usize, head: Head) -> Result<State, Fault>
-    requires { at + 3 ≤ length bytes.now }
-    ensures state { result ≡ reached Phase.Ended (end_at bytes.now at head) }
-    ensures goes { IfOk result (λ t. (at < t.at) × (t.at ≤ length bytes.now)) }
-{
-    let next = read_end(bytes, at, head)?;
-    Ok(State {
-        phase: Phase::Ended,
-        at: next,
-    })
+        }),
+        Err(refusal) => Err(field.fault(refusal)),
+    }
 }
 
 // One field.
@@ -122,17 +69,15 @@ fn turn(bytes: &[u8], s: State, draft: &mut Draft) -> Result<State, Fault>
 {
     let at = s.at;
     let head = read_head(bytes, at)?;
+    let field = Field { bytes, at, head };
     match (s.phase, head.tag) {
-        (Phase::Head, 1) => enter_edition(bytes, at, head),
-        (Phase::Places, 2) => enter_place(bytes, at, head, draft),
-        (Phase::Places, 3) => enter_way(bytes, at, head, draft),
-        (Phase::Places, 4) => enter_end(bytes, at, head),
-        (Phase::Ways, 3) => enter_way(bytes, at, head, draft),
-        (Phase::Ways, 4) => enter_end(bytes, at, head),
-        _ => Err(Fault {
-            refusal: Refusal::WrongTag,
-            place: at,
-        }),
+        (Phase::Head, 1) => reached(Phase::Places, field.edition()),
+        (Phase::Places, 2) => enter::<Place>(&field, draft),
+        (Phase::Places, 3) => enter::<WayEntry>(&field, draft),
+        (Phase::Places, 4) => reached(Phase::Ended, field.end()),
+        (Phase::Ways, 3) => enter::<WayEntry>(&field, draft),
+        (Phase::Ways, 4) => reached(Phase::Ended, field.end()),
+        _ => Err(field.fault(Refusal::WrongTag)),
     }
 }
 
@@ -146,7 +91,7 @@ fn fill(bytes: &[u8], draft: &mut Draft) -> Result<(), Fault>
         phase: Phase::Head,
         at: 0,
     };
-    while !is_ended(s.phase) {
+    while !s.phase.is_ended() {
         s = turn(bytes, s, draft)?;
     }
     Ok(())

@@ -110,13 +110,9 @@ impl Draft {
         ensures answer { result ≡ given tt (reprice (contents self.old) number price) }
         ensures after { contents self.new ≡ left (contents self.old) (reprice (contents self.old) number price) }
     {
-        match self.table.way_mut(number) {
-            Some(way) => {
-                check_price(price)?;
-                way.price = price;
-                Ok(())
-            }
-            None => Err(Refusal::NoSuchWay),
-        }
+        let way = self.table.way_mut(number).ok_or(Refusal::NoSuchWay)?;
+        check_price(price)?;
+        way.price = price;
+        Ok(())
     }
 }

@@ -5,17 +5,6 @@ ghost use Rattle.survey.specs.Contents.{contents};
 use crate::draft::Draft;
 use crate::entry::{Place, WayEntry};
 
-// An item by its number, or none past the last.
-fn item<T: Copy>(items: &Vec<T>, number: usize) -> Option<T>
-    ensures { result ≡ slice_get items.now.items number }
-{
-    if number < items.len() {
-        Some(items[number])
-    } else {
-        None
-    }
-}
-
 impl Draft {
     // How many places are entered.
     pub fn places(&self) -> usize
@@ -37,13 +26,27 @@ impl Draft {
     pub fn place(&self, number: usize) -> Option<Place>
         ensures { result ≡ slice_get (contents self.now).places number }
     {
-        item(&self.places, number)
+        self.places.get(number).copied()
     }
 
     // A way by its number.
     pub fn way(&self, number: usize) -> Option<WayEntry>
         ensures { result ≡ slice_get (contents self.now).ways number }
     {
-        item(&self.table.ways, number)
+        self.table.ways.get(number).copied()
+    }
+
+    // All places, by their numbers.
+    pub(crate) fn all_places(&self) -> &[Place]
+        ensures { result.now ≡ (contents self.now).places }
+    {
+        self.places.as_slice()
+    }
+
+    // All ways, by their numbers.
+    pub(crate) fn all_ways(&self) -> &[WayEntry]
+        ensures { result.now ≡ (contents self.now).ways }
+    {
+        self.table.ways.as_slice()
     }
 }

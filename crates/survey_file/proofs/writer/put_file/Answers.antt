@@ -1,48 +1,60 @@
 -- The head, the places, the ways and the end are laid one behind the other, and there is room for each.
-use Rattle.std.proofs.Common.{◌∙◌}
+use Rattle.std.proofs.Common.{◌≤◌, length, vec_len, refl, sym, subst, ap, ◌∙◌}
+use Rattle.byte_slices.specs.Lay.{placed as laid_at, over}
+use Rattle.survey.specs.Checks.{good_ways}
+use Rattle.survey.specs.Contents.{Contents}
 use Rattle.survey.specs.Sealing.{sealed_contents}
+use Rattle.survey_file.specs.Encode.{file_of}
 use Rattle.survey_file.proofs.ReadsBack.{sealed_reads}
-use Rattle.survey_file.proofs.Writing.{front_head, head_not_refused, places_fit, front_places, ways_fit, front_ways, end_answer, end_bytes}
+use Rattle.survey_file.proofs.Writing.{letters_fit, same_contents, front_head, head_not_refused, places_fit, front_places, ways_fit, front_ways, end_answer, end_bytes}
 use Rattle.survey_file.proofs.writer.put_file.Goals as goal
 
 pub returns-in_err-after_head : goal.returns-in_err-after_head
-returns-in_err-after_head c =
-    let contents = sealed_contents c.args.survey.now in
-    let room = c.requires in
-    absurd (head_not_refused c.args.out.now contents room _ c.in_err-after_head.ensures.answer)
+returns-in_err-after_head c = absurd (head_not_refused c.args.out.now (sealed_contents c.args.survey.now) c.requires _ c.in_err-after_head.ensures.answer)
 
 pub put_all-requires : goal.put_all-requires
 put_all-requires c =
-    let contents = sealed_contents c.args.survey.now in
-    let before = c.args.out.now in
-    let room = c.requires in
+    let whole = sealed_contents c.args.survey.now in
+    let read : Contents = record { places = c.all_places.result.now; ways = whole.ways } in
+    let same = same_contents read.places read.ways whole c.all_places.ensures.value refl in
+    let room = subst (λ d. length (file_of d) ≤ length c.args.out.now) (sym same) c.requires in
     let told = c.in_ok-after_head.ensures in
-    places_fit before contents room _ _ (front_head before contents room c.in_ok-after_head.after_head c.put.new.out told.answer told.after)
+    record {
+      writable = λ k d below. tt;
+      room = places_fit c.args.out.now read room _ _ (front_head c.args.out.now read room c.in_ok-after_head.after_head c.put.new.out told.answer told.after);
+    }
 
 pub put_all-requires-2 : goal.put_all-requires-2
 put_all-requires-2 c =
-    let contents = sealed_contents c.args.survey.now in
+    let draft = c.args.survey.now.draft in
+    let whole = sealed_contents c.args.survey.now in
+    let read : Contents = record { places = c.all_places.result.now; ways = c.all_ways.result.now } in
+    let same = same_contents read.places read.ways whole c.all_places.ensures.value c.all_ways.ensures.value in
     let before = c.args.out.now in
-    let room = c.requires in
+    let room = subst (λ d. length (file_of d) ≤ length before) (sym same) c.requires in
     let told = c.in_ok-after_head.ensures in
-    let head = front_head before contents room c.in_ok-after_head.after_head c.put.new.out told.answer told.after in
-    let told-places = c.in_ok-after_places.ensures in
-    ways_fit before contents room _ _
-    (front_places before contents room _ c.in_ok-after_places.after_places _ c.put_all.new.out head told-places.answer told-places.after)
+    let head = front_head before read room c.in_ok-after_head.after_head c.put.new.out told.answer told.after in
+    let placed = c.in_ok-after_places.ensures in
+    record {
+      writable = letters_fit (vec_len draft.places) read.ways (ap (good_ways (vec_len draft.places)) c.all_ways.ensures.value ∙ draft.good_ways);
+      room = ways_fit before read room _ _ (front_places before read room _ c.in_ok-after_places.after_places _ c.put_all.new.out head placed.answer placed.after);
+    }
 
 pub returns : goal.returns
 returns c =
-    let contents = sealed_contents c.args.survey.now in
+    let whole = sealed_contents c.args.survey.now in
+    let read : Contents = record { places = c.all_places.result.now; ways = c.all_ways.result.now } in
+    let same = same_contents read.places read.ways whole c.all_places.ensures.value c.all_ways.ensures.value in
     let before = c.args.out.now in
-    let room = c.requires in
+    let room = subst (λ d. length (file_of d) ≤ length before) (sym same) c.requires in
     let told = c.in_ok-after_head.ensures in
-    let head = front_head before contents room c.in_ok-after_head.after_head c.put.new.out told.answer told.after in
-    let told-places = c.in_ok-after_places.ensures in
-    let places = front_places before contents room _ c.in_ok-after_places.after_places _ c.put_all.new.out head told-places.answer told-places.after in
-    let told-ways = c.in_ok-after_ways.ensures in
-    let ways = front_ways before contents room _ c.in_ok-after_ways.after_ways _ c.put_all-2.new.out places told-ways.answer told-ways.after in
+    let head = front_head before read room c.in_ok-after_head.after_head c.put.new.out told.answer told.after in
+    let placed = c.in_ok-after_places.ensures in
+    let places = front_places before read room _ c.in_ok-after_places.after_places _ c.put_all.new.out head placed.answer placed.after in
+    let laid = c.in_ok-after_ways.ensures in
+    let ways = front_ways before read room _ c.in_ok-after_ways.after_ways _ c.put_all-2.new.out places laid.answer laid.after in
     record {
-      answer = c.put-2.ensures.answer ∙ end_answer before contents room _ _ ways;
-      after = c.put-2.ensures.after ∙ end_bytes before contents room _ _ ways;
+      answer = c.put-2.ensures.answer ∙ end_answer before read room _ _ ways ∙ ap (λ d. laid_at before 0 (file_of d)) same;
+      after = c.put-2.ensures.after ∙ end_bytes before read room _ _ ways ∙ ap (λ d. over before 0 (file_of d)) same;
       reads = sealed_reads c.args.survey.now;
     }
