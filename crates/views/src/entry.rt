@@ -8,10 +8,7 @@ use survey::entry::WayEntry;
 fn loss_of(entry: WayEntry) -> u16
     ensures { result ≡ entry_loss entry }
 {
-    match card::loss(entry.letter, entry.metres) {
-        Ok(loss) => loss,
-        Err(_) => 0,
-    }
+    card::loss(entry.letter, entry.metres).unwrap_or(0)
 }
 
 // A way that was entered, as a way of a site, with the charge that it has there.

@@ -4,3 +4,4 @@
 pub mod disturbance;
 pub mod entry;
 pub mod money;
+pub mod view;
