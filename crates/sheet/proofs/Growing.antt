@@ -1,24 +1,13 @@
 -- A line grows by a piece that has room: the text, and then the piece.
-use Rattle.std.proofs.Common.{◌≡◌, ℕ, ◌+◌, ◌^◌, ◌<◌, ◌≤◌, leb, List, [], ◌∷◌, ◌++◌, length, take, Ok, decimal, sym, refl, ap, ◌∙◌, arith}
-use Rattle.std.proofs.lemmas.List.{append_assoc, length-append, length-take-le}
+use Rattle.std.proofs.Common.{◌≡◌, ℕ, ◌+◌, ◌^◌, ◌<◌, ◌≤◌, leb, List, [], ◌∷◌, ◌++◌, length, decimal, refl, ap, ◌∙◌, arith}
+use Rattle.std.proofs.lemmas.List.{append_assoc, length-append}
 use Rattle.std.proofs.lemmas.Fmt.{length-decimal-le}
 use Rattle.std.proofs.lemmas.Bool.{le-leb, cond-true}
-use Rattle.byte_slices.specs.Lay.{placed, over}
-use Rattle.byte_slices.proofs.Laid.{placed_ok, over_front}
 use Rattle.sheet.specs.Lines.{pushed}
 use Rattle.sheet.specs.Refused.{figure}
 
 pub push_fits : (text piece : List ℕ) → length text + length piece ≤ 128 → pushed text piece ≡ text ++ piece
 push_fits text piece h = cond-true (leb (length text + length piece) 128) (text ++ piece) text (le-leb (length text + length piece) 128 h)
-
-pub grown : (bytes bytes' piece : List ℕ) (at end : ℕ) → length bytes ≡ 128 → Ok end ≡ placed bytes at piece → bytes' ≡ over bytes at piece
-    → take end bytes' ≡ pushed (take at bytes) piece
-grown bytes bytes' piece at end long answered is =
-    let q = placed_ok bytes at piece end answered in
-    let fits = q.0 in
-    let front = length-take-le at bytes (omega arith) in
-    ap (λ n. take n bytes') q.1 ∙ ap (take (at + length piece)) is ∙ over_front bytes at piece q.0
-    ∙ sym (push_fits (take at bytes) piece (omega arith))
 
 -- a line that says a text says the text and a piece, where there is room for both
 pub says_more : (t t' text piece : List ℕ) → t ≡ text → t' ≡ pushed t piece → length text + length piece ≤ 128 → t' ≡ text ++ piece

@@ -1,3 +1,2 @@
-pub mod Spelling
 pub mod Growing
 pub mod Stepping

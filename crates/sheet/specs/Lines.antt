@@ -1,9 +1,9 @@
 -- The text of a line that is being written: it grows by pieces, while there is room for them in 128 bytes.
-use Rattle.std.specs.Prelude.{ℕ, ◌+◌, cond, List, ◌++◌, length, take, nat_le}
+use Rattle.std.specs.Prelude.{ℕ, ◌+◌, cond, List, ◌++◌, length, nat_le}
 use Rattle.sheet.specs.declared.text.TextLine.{TextLine}
 
 abbrev pub text_of : TextLine → List ℕ
-text_of l = take l.length l.bytes
+text_of l = l.text.items
 
 abbrev pub pushed : List ℕ → List ℕ → List ℕ
 pushed text piece = cond (nat_le (length text + length piece) 128) (text ++ piece) text

@@ -1,5 +1,5 @@
 // Numbers in decimal.
-ghost use Rattle.std.specs.Prelude.{◌≡◌, ◌<◌, length, drop, decimal};
+ghost use Rattle.std.specs.Prelude.{◌≡◌, decimal};
 ghost use Rattle.byte_slices.specs.Lay.{placed, over};
 ghost use Rattle.sheet.specs.Decimals.{PlainDecimal};
 ghost use Rattle.sheet.specs.Lines.{text_of};
@@ -25,21 +25,4 @@ fn decimal_line(n: u64) -> TextLine
     let mut line = TextLine::new();
     line.push_number(n);
     line
-}
-
-// The digits of n stand at the end of twenty bytes, from the place that is answered.
-pub(crate) fn spell(digits: &mut [u8], n: u64) -> usize
-    requires { length digits.old ≡ 20 }
-    ensures low { result < 20 }
-    ensures text { drop result digits.new ≡ decimal n }
-{
-    let mut rest = n;
-    let mut at = 19;
-    while rest >= 10 {
-        digits[at] = 48 + (rest % 10) as u8;
-        rest /= 10;
-        at -= 1;
-    }
-    digits[at] = 48 + rest as u8;
-    at
 }

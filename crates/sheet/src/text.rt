@@ -1,11 +1,9 @@
-ghost use Rattle.std.specs.Prelude.{◌≤◌};
+use arrayvec::ArrayVec;
 
 pub mod line;
 
 // One line of text, of at most 128 bytes.
 #[derive(Drop)]
 pub struct TextLine {
-    bytes: [u8; 128],
-    length: usize,
-    ghost inside: { length ≤ 128 },
+    text: ArrayVec<u8, 128>,
 }

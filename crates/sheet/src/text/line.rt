@@ -2,9 +2,10 @@ ghost use Rattle.std.specs.Prelude.{◌≡◌, [], ◌∷◌, length, decimal};
 ghost use Rattle.byte_slices.specs.Lay.{placed, over};
 ghost use Rattle.sheet.specs.Lines.{text_of, pushed};
 
-use crate::digits::spell;
 use crate::text::TextLine;
+use arrayvec::ArrayVec;
 use byte_slices::put;
+use itoa::Buffer;
 use refusal::Refusal;
 
 impl TextLine {
@@ -12,8 +13,7 @@ impl TextLine {
         ensures { text_of result ≡ [] }
     {
         TextLine {
-            bytes: [0; 128],
-            length: 0,
+            text: ArrayVec::new(),
         }
     }
 
@@ -21,26 +21,22 @@ impl TextLine {
     pub(crate) fn len(&self) -> usize
         ensures { result ≡ length (text_of self.now) }
     {
-        self.length
+        self.text.len()
     }
 
     // The text grows by a piece, where there is room for it.
     pub(crate) fn push(&mut self, piece: &[u8])
         ensures { text_of self.new ≡ pushed (text_of self.old) piece.now }
     {
-        let length = self.length;
-        if let Ok(end) = put(&mut self.bytes, length, piece) {
-            self.length = end;
-        }
+        let _ = self.text.try_extend_from_slice(piece);
     }
 
     // The text grows by the digits of a number, where there is room for them.
     pub(crate) fn push_number(&mut self, n: u64)
         ensures { text_of self.new ≡ pushed (text_of self.old) (decimal n) }
     {
-        let mut digits = [0u8; 20];
-        let first = spell(&mut digits, n);
-        self.push(&digits[first..20]);
+        let mut digits = Buffer::new();
+        self.push(digits.format(n).as_bytes());
     }
 
     // The text grows by the digits of a number and a byte behind them, where there is room.
@@ -56,6 +52,6 @@ impl TextLine {
         ensures answer { result ≡ placed out.old at (text_of self.now) }
         ensures after { out.new ≡ over out.old at (text_of self.now) }
     {
-        put(out, at, &self.bytes[0..self.length])
+        put(out, at, self.text.as_slice())
     }
 }
