@@ -4,10 +4,9 @@
 
 use charge::money::Money;
 use heap::Heap;
-use input::{print_fault, print_refusal, print_text, read_input, request_in};
+use input::{print_fault, print_refusal, print_sheet, read_input, request_in};
 use relays::plan_for_money;
 use search::cell::{Cell, Row, State};
-use sheet::page::sheet;
 use site::run::{Request, Step};
 use slots::slot::Slot;
 use std::alloc::{AllocError, Global};
@@ -58,20 +57,6 @@ fn run_rows(heap: Global) -> Result<Vec<Step>, AllocError> {
     }; ROWS]
 }
 
-// Prints the sheet of the first steps of the run rows.
-fn print_sheet(
-    rt: &HostRuntime,
-    survey: &Sealed,
-    request: Request,
-    steps: &[Step],
-) -> anyhow::Result<()> {
-    let mut page = vec![in rt.alloc(); 0u8; PAGE]?;
-    match sheet(survey, request, steps, &mut page) {
-        Ok(length) => print_text(rt, &page, length),
-        Err(refusal) => print_refusal(rt, refusal),
-    }
-}
-
 // Plans the least run for money over a survey, and prints it.
 fn plan_survey(rt: &HostRuntime, survey: &Sealed, request: Request) -> anyhow::Result<()> {
     let mut cells = cell_rows(rt.alloc())?;
@@ -79,10 +64,7 @@ fn plan_survey(rt: &HostRuntime, survey: &Sealed, request: Request) -> anyhow::R
     let mut run = run_rows(rt.alloc())?;
     let mut queue = Heap::over(&mut waiting);
     match plan_for_money(survey, request, &mut cells, &mut queue, &mut run) {
-        Ok(planned) => {
-            let count = planned.steps;
-            print_sheet(rt, survey, request, &run[0..count])
-        }
+        Ok(planned) => print_sheet(rt, survey, request, &run[..planned.steps], PAGE),
         Err(refusal) => print_refusal(rt, refusal),
     }
 }
@@ -100,7 +82,7 @@ fn answer(rt: &HostRuntime, request: Request, file: &[u8]) -> anyhow::Result<()>
 fn main(rt: HostRuntime) -> anyhow::Result<()> {
     let mut input = vec![in rt.alloc(); 0u8; MOST]?;
     let count = read_input(&rt, &mut input)?;
-    match request_in(&input[0..count]) {
+    match request_in(&input[..count]) {
         Ok(request) => answer(&rt, request, &input[6..count]),
         Err(fault) => print_fault(&rt, fault),
     }

@@ -4,15 +4,11 @@
 // their high byte first. Steps that are cut short are refused like a file cut short at its start.
 #![tactic(auto)]
 
-ghost use Rattle.std.specs.Prelude.{◌+◌, ◌*◌, ◌≤◌, length, IfOk};
-
-use input::{print_fault, print_refusal, print_text, read_input, request_in};
+use input::{print_fault, print_sheet, read_input, request_in};
 use refusal::{Fault, Refusal};
-use sheet::page::sheet;
 use site::run::{Request, Step};
 use std::alloc::{AllocError, Global};
 use survey::draft::Draft;
-use survey::sealed::Sealed;
 use survey_file::reader::FileReader;
 
 // The most bytes that are read: the request, 65,535 steps of three bytes with their number, and the longest survey file.
@@ -21,53 +17,31 @@ const MOST: usize = 213773;
 // How long a sheet may be.
 const PAGE: usize = 65536;
 
-// How many steps stand behind the request.
-fn count_steps(bytes: &[u8]) -> Result<usize, Fault>
-    ensures { IfOk result (λ n. 8 + 3 * n ≤ length bytes.now) }
-{
-    if bytes.len() < 8 {
-        return Err(Fault {
-            refusal: Refusal::CutShort,
-            place: 0,
-        });
-    }
-    let count = bytes[6] as usize * 256 + bytes[7] as usize;
-    if bytes.len() - 8 < 3 * count {
-        return Err(Fault {
-            refusal: Refusal::CutShort,
-            place: 0,
-        });
-    }
-    Ok(count)
+// What stands in the input: the request, the bytes of the steps, and the survey file.
+fn parts(input: &[u8]) -> Result<(Request, &[u8], &[u8]), Fault> {
+    let request = request_in(input)?;
+    let cut = Fault {
+        refusal: Refusal::CutShort,
+        place: 0,
+    };
+    let [_, _, _, _, _, _, high, low, rest @ ..] = input else {
+        return Err(cut);
+    };
+    let count = u16::from_be_bytes([*high, *low]) as usize;
+    let (steps, file) = rest.split_at_checked(3 * count).ok_or(cut)?;
+    Ok((request, steps, file))
 }
 
 // The steps, as they stand in the bytes.
 fn read_steps(heap: Global, bytes: &[u8]) -> Result<Vec<Step>, AllocError> {
-    let mut steps = Vec::new(heap);
-    let mut at = 0;
-    while at + 3 <= bytes.len() {
-        let way = bytes[at] as usize * 256 + bytes[at + 1] as usize;
-        steps.push(Step {
-            way,
-            mark: bytes[at + 2] == 1,
-        })?;
-        at += 3;
-    }
-    Ok(steps)
-}
-
-// Prints the sheet of the steps over a survey.
-fn print_sheet(
-    rt: &HostRuntime,
-    survey: &Sealed,
-    request: Request,
-    steps: &[Step],
-) -> anyhow::Result<()> {
-    let mut page = vec![in rt.alloc(); 0u8; PAGE]?;
-    match sheet(survey, request, steps, &mut page) {
-        Ok(length) => print_text(rt, &page, length),
-        Err(refusal) => print_refusal(rt, refusal),
-    }
+    let (steps, _) = bytes.as_chunks::<3>();
+    steps
+        .iter()
+        .map(|&[high, low, mark]| Step {
+            way: u16::from_be_bytes([high, low]) as usize,
+            mark: mark == 1,
+        })
+        .collect(heap)
 }
 
 // What a request, steps and a survey file come to.
@@ -76,21 +50,14 @@ fn answer(rt: &HostRuntime, request: Request, steps: &[u8], file: &[u8]) -> anyh
     let mut draft = Draft::new(rt.alloc())?;
     let drawn = read_steps(rt.alloc(), steps)?;
     match reader.read(file, &mut draft) {
-        Ok(()) => print_sheet(rt, &draft.seal(), request, &drawn),
+        Ok(()) => print_sheet(rt, &draft.seal(), request, &drawn, PAGE),
         Err(fault) => print_fault(rt, fault),
     }
 }
 
 fn run(rt: &HostRuntime, input: &[u8]) -> anyhow::Result<()> {
-    let request = match request_in(input) {
-        Ok(request) => request,
-        Err(fault) => return print_fault(rt, fault),
-    };
-    match count_steps(input) {
-        Ok(count) => {
-            let end = 8 + 3 * count;
-            answer(rt, request, &input[8..end], &input[end..])
-        }
+    match parts(input) {
+        Ok((request, steps, file)) => answer(rt, request, steps, file),
         Err(fault) => print_fault(rt, fault),
     }
 }
@@ -98,5 +65,5 @@ fn run(rt: &HostRuntime, input: &[u8]) -> anyhow::Result<()> {
 fn main(rt: HostRuntime) -> anyhow::Result<()> {
     let mut input = vec![in rt.alloc(); 0u8; MOST]?;
     let count = read_input(&rt, &mut input)?;
-    run(&rt, &input[0..count])
+    run(&rt, &input[..count])
 }

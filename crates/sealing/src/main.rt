@@ -3,6 +3,7 @@
 // is no site.
 #![tactic(auto)]
 
+use anyhow::anyhow;
 use refusal::Refusal;
 use site::site::Site;
 use survey::draft::Draft;
@@ -35,18 +36,12 @@ fn enter(draft: &mut Draft) -> Result<(), Refusal> {
     draft.reprice(1, 350)
 }
 
-fn price_of(survey: &Sealed, way: usize) -> u64 {
-    match MoneyView::over(survey).way(way) {
-        Some(open) => open.charge.cents,
-        None => 0,
-    }
+fn price_of(survey: &Sealed, way: usize) -> Option<u64> {
+    Some(MoneyView::over(survey).way(way)?.charge.cents)
 }
 
-fn loss_of(survey: &Sealed, way: usize) -> u16 {
-    match DisturbanceView::over(survey).way(way) {
-        Some(open) => open.loss,
-        None => 0,
-    }
+fn loss_of(survey: &Sealed, way: usize) -> Option<u16> {
+    Some(DisturbanceView::over(survey).way(way)?.loss)
 }
 
 fn main(rt: HostRuntime) -> anyhow::Result<()> {
@@ -55,8 +50,9 @@ fn main(rt: HostRuntime) -> anyhow::Result<()> {
     let survey = draft.seal();
     let places = survey.places();
     let ways = survey.ways();
-    let price = price_of(&survey, 1);
-    let loss = loss_of(&survey, 1);
+    let (Some(price), Some(loss)) = (price_of(&survey, 1), loss_of(&survey, 1)) else {
+        return Err(anyhow!("way 1 is not there"));
+    };
     println!(rt;
         "entered {entered}: {places} places and {ways} ways; way 1 costs {price} cents and loses {loss} tenths"
     )?;

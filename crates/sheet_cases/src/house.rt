@@ -1,5 +1,6 @@
 // The house on four places, entered and sealed, with some price or none for a repeater at place 1.
 use anyhow::anyhow;
+use refusal::Refusal;
 use std::alloc::Global;
 use survey::draft::Draft;
 use survey::entry::WayEntry;
@@ -17,11 +18,14 @@ fn way(from: u16, to: u16, grade: u8, metres: u16, price: u32) -> WayEntry {
     }
 }
 
+fn refused(_: Refusal) -> anyhow::Error {
+    anyhow!("the house was refused")
+}
+
 pub fn house(heap: Global, first: Option<u32>) -> anyhow::Result<Sealed> {
     let mut draft = Draft::new(heap)?;
-    let mut entered = true;
     for repeater in [None, first, Some(500), None] {
-        entered = entered && draft.add_place(repeater).is_ok();
+        draft.add_place(repeater).map_err(refused)?;
     }
     for entry in [
         way(0, 1, 1, 10, 300),
@@ -29,10 +33,7 @@ pub fn house(heap: Global, first: Option<u32>) -> anyhow::Result<Sealed> {
         way(1, 2, 7, 5, 200),
         way(2, 1, 7, 5, 200),
     ] {
-        entered = entered && draft.add_way(entry).is_ok();
-    }
-    if !entered {
-        return Err(anyhow!("the house was refused"));
+        draft.add_way(entry).map_err(refused)?;
     }
     Ok(draft.seal())
 }

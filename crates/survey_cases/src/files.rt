@@ -18,9 +18,7 @@ fn file(
     for _ in 0..places {
         bytes.extend_from_slice(&[2, 0, 0])?;
     }
-    let high = (price / 65536 % 256) as u8;
-    let middle = (price / 256 % 256) as u8;
-    let low = (price % 256) as u8;
+    let [_, high, middle, low] = price.to_be_bytes();
     for _ in 0..ways {
         bytes.extend_from_slice(&[3, 0, 12, 0, 0, 0, 1, 83, 0, 0, metres, 0, high, middle, low])?;
     }

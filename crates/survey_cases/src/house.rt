@@ -10,13 +10,11 @@ pub const HOUSE: [u8; 88] = [
 
 // Where the field begins that has the byte of a number, or that would follow so many bytes.
 pub fn field_start(count: usize) -> usize {
-    let mut start = 0;
-    for next in [5, 8, 15, 22, 25, 40, 55, 70, 85] {
-        if next <= count {
-            start = next;
-        }
-    }
-    start
+    [5, 8, 15, 22, 25, 40, 55, 70, 85]
+        .into_iter()
+        .filter(|next| *next <= count)
+        .last()
+        .unwrap_or(0)
 }
 
 // Whether what stands in the draft is written as these 88 bytes.

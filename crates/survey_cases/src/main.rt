@@ -7,7 +7,9 @@ mod house;
 
 use crate::files::{answer_to, limits};
 use crate::house::{HOUSE, field_start, written};
+use anyhow::anyhow;
 use card::loss;
+use refusal::{Fault, Refusal};
 use std::alloc::Global;
 use survey::draft::Draft;
 use survey_file::reader::FileReader;
@@ -16,10 +18,12 @@ use survey_file::reader::FileReader;
 fn fronts(reader: &mut FileReader, draft: &mut Draft) -> usize {
     let mut right = 0usize;
     for count in 0..88 {
-        if let Err(fault) = reader.read(&HOUSE[0..count], draft) {
-            if fault.refusal.code() == 1 && fault.place == field_start(count) {
-                right = right.saturating_add(1);
-            }
+        let cut = Fault {
+            refusal: Refusal::CutShort,
+            place: field_start(count),
+        };
+        if reader.read(&HOUSE[..count], draft) == Err(cut) {
+            right = right.saturating_add(1);
         }
     }
     right
@@ -51,11 +55,8 @@ fn changes(reader: &mut FileReader, heap: Global) -> anyhow::Result<(usize, usiz
     Ok((refused, other, wrong))
 }
 
-fn metres(letter: char, length: u16) -> u16 {
-    match loss(letter, length) {
-        Ok(tenths) => tenths,
-        Err(_) => 9999,
-    }
+fn metres(letter: char, length: u16) -> anyhow::Result<u16> {
+    loss(letter, length).map_err(|_| anyhow!("a loss of the card was refused"))
 }
 
 fn main(rt: HostRuntime) -> anyhow::Result<()> {
@@ -77,9 +78,9 @@ fn main(rt: HostRuntime) -> anyhow::Result<()> {
     let all = refused.saturating_add(other).saturating_add(wrong);
     println!(rt; "of {all} changes of one byte {wrong} read as the house")?;
     limits(&rt, &mut reader)?;
-    let u = metres('U', 7);
-    let f = metres('F', 25);
-    let g = metres('F', 26);
+    let u = metres('U', 7)?;
+    let f = metres('F', 25)?;
+    let g = metres('F', 26)?;
     println!(rt; "U 7 m is {u}, F 25 m is {f}, F 26 m is {g}")?;
     Ok(())
 }
