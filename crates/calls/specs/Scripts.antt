@@ -1,6 +1,6 @@
 -- Which script a text is, and why a text is none: the first line that is the text of no call, or a last call that is no plan,
 -- or no line at all. Stands on the texts of calls.
-use Rattle.std.specs.Prelude.{◌≡◌, ℕ, ◌+◌, List, [], ◌∷◌, ◌++◌, length, vec_items}
+use Rattle.std.specs.Prelude.{◌≡◌, ℕ, ◌+◌, List, [], ◌∷◌, ◌++◌, length, codes, decimal, vec_items}
 use Rattle.std.specs.List.{AllByRecursion}
 use Rattle.charge.specs.declared.money.Money.{Money}
 use Rattle.job.specs.declared.list.Call.{Call}
@@ -58,3 +58,9 @@ abbrev pub TroubleOf : List ℕ → Trouble → Type 0
 TroubleOf text (trouble.NoCall n) = BadLine text n
 TroubleOf text (trouble.NoPlan n) = (calls : List Call) × TextOf text calls × EndsWithoutPlan calls n
 TroubleOf text trouble.NoLines = text ≡ []
+
+-- a trouble, told in words
+abbrev pub trouble_text : Trouble → List ℕ
+trouble_text (trouble.NoCall n) = codes "line " ++ (decimal n ++ codes " cannot be read: it is not \"close W\", \"reopen W\" or \"plan START END BOUND\"")
+trouble_text (trouble.NoPlan n) = codes "line " ++ (decimal n ++ codes ", the last, is not a plan")
+trouble_text trouble.NoLines = codes "the text has no line"

@@ -69,17 +69,11 @@ fn words_say(line: &str) -> Option<Call>
 pub fn read_call(heap: Global, line: &str) -> Result<Option<Call>, AllocError>
     ensures { IfOk result (λ o. MatchOption o (NoCall line.now) (λ c. line.now ≡ call_text c)) }
 {
-    match words_say(line) {
-        None => Ok(None),
-        Some(call) => {
-            let text = text_of(heap, call)?;
-            if text.as_str() == line {
-                Ok(Some(call))
-            } else {
-                Ok(None)
-            }
-        }
-    }
+    let Some(call) = words_say(line) else {
+        return Ok(None);
+    };
+    let text = text_of(heap, call)?;
+    Ok((text.as_str() == line).then_some(call))
 }
 
 // The same of bytes; a line that is not UTF-8 is the text of no call.

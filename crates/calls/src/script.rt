@@ -1,17 +1,18 @@
 // A whole text: the calls that are tried, and the plan that is made at the end.
-ghost use Rattle.std.specs.Prelude.{◌≡◌, ℕ, ◌<◌, ◌≤◌, ◌≢◌, [], ◌∷◌, ◌++◌, length, IfOk, MatchOption, MatchResult, slice_index};
+ghost use Rattle.std.specs.Prelude.{◌≡◌, ℕ, ◌<◌, ◌≤◌, ◌≢◌, [], ◌∷◌, ◌++◌, length, Some, IfOk, MatchOption, MatchResult, slice_index};
 ghost use Rattle.job.specs.declared.list.Call.TheVariants.{Plan};
 ghost use Rattle.job.specs.Replay.{calls_of};
 ghost use Rattle.std.specs.List.{AllByRecursion};
 ghost use Rattle.calls.specs.Covering.{Covers};
 ghost use Rattle.calls.specs.Texts.{TextOf, FirstLine};
-ghost use Rattle.calls.specs.Scripts.{AllUntried, NotPlan, EndTrouble, TroubleOf, ScriptOf};
+ghost use Rattle.calls.specs.Scripts.{AllUntried, NotPlan, EndTrouble, TroubleOf, ScriptOf, trouble_text};
 
 use crate::line::read_line;
 use charge::money::Money;
 use job::list::{Answer, Call, Entry};
 use site::run::Request;
 use std::alloc::{AllocError, Global};
+use std::fmt;
 
 // the calls before the last, none of them tried yet, and the request of the last
 #[derive(Drop)]
@@ -31,18 +32,30 @@ pub enum Trouble {
     NoLines,
 }
 
+impl fmt::Display for Trouble {
+    ghost output = { λ t. Some (trouble_text t) };
+
+    fn fmt<W: fmt::Write>(&self, f: &mut fmt::Formatter<W>) -> fmt::Result {
+        match self {
+            Trouble::NoCall(number) => write!(
+                f,
+                "line {number} cannot be read: it is not \"close W\", \"reopen W\" or \"plan START END BOUND\""
+            ),
+            Trouble::NoPlan(number) => write!(f, "line {number}, the last, is not a plan"),
+            Trouble::NoLines => f.write_str("the text has no line"),
+        }
+    }
+}
+
 // Where the first line feed stands, or the length of a text that has none.
 fn feed_at(text: &[u8]) -> usize
     ensures within { result ≤ length text.now }
     ensures before { (k : ℕ) → k < result → slice_index text.now k ≢ 10 }
     ensures found { result < length text.now → slice_index text.now result ≡ 10 }
 {
-    for (i, byte) in text.iter().enumerate() {
-        if *byte == b'\n' {
-            return i;
-        }
-    }
-    text.len()
+    text.iter()
+        .position(|byte| *byte == b'\n')
+        .unwrap_or(text.len())
 }
 
 // The first line of a text, and what stands behind its line feed.
@@ -62,17 +75,15 @@ fn read_lines(heap: Global, text: &[u8]) -> Result<Result<Vec<Entry<Money>>, Tro
     ensures { IfOk result (λ s. MatchResult s (λ v. TextOf text.now (calls_of v.items) × AllUntried v.items) (λ t. TroubleOf text.now t)) }
 {
     let mut entries = Vec::new(heap);
-    let mut number: usize = 0;
     let mut rest = text;
     while !rest.is_empty() {
-        number += 1;
         let (line, others) = cut_line(rest);
         match read_line(heap, line)? {
             Some(call) => entries.push(Entry {
                 call,
                 answer: Answer::Untried,
             })?,
-            None => return Ok(Err(Trouble::NoCall(number as u64))),
+            None => return Ok(Err(Trouble::NoCall(entries.len() as u64 + 1))),
         }
         rest = others;
     }
@@ -85,24 +96,19 @@ fn request_of(call: Call) -> Option<Request>
 {
     match call {
         Call::Plan(request) => Some(request),
-        Call::Close(_) => None,
-        Call::Reopen(_) => None,
+        _ => None,
     }
 }
 
 // The script of the calls that were read: the last of them has to be a plan.
-fn script_of(entries: Vec<Entry<Money>>) -> Result<Script, Trouble>
+fn script_of(mut entries: Vec<Entry<Money>>) -> Result<Script, Trouble>
     ensures { MatchResult result (λ s. (calls_of entries.items ≡ calls_of s.entries.items ++ Plan s.last ∷ []) × (AllUntried entries.items → AllUntried s.entries.items)) (λ t. EndTrouble (calls_of entries.items) t) }
 {
-    let mut listed = entries;
-    let lines = listed.len() as u64;
-    match listed.pop() {
+    let lines = entries.len() as u64;
+    match entries.pop() {
         None => Err(Trouble::NoLines),
         Some(entry) => match request_of(entry.call) {
-            Some(last) => Ok(Script {
-                entries: listed,
-                last,
-            }),
+            Some(last) => Ok(Script { entries, last }),
             None => Err(Trouble::NoPlan(lines)),
         },
     }
@@ -134,13 +140,7 @@ fn larger_bound(bound: usize, call: Call) -> usize
     ensures covers { Covers result call }
 {
     match call {
-        Call::Plan(request) => {
-            if request.bound > bound && request.bound <= 1000 {
-                request.bound
-            } else {
-                bound
-            }
-        }
+        Call::Plan(request) if request.bound <= 1000 => bound.max(request.bound),
         _ => bound,
     }
 }

@@ -33,7 +33,7 @@ fn read_calls(rt: &HostRuntime, text: &str) -> anyhow::Result<Option<Script>> {
     match read_script(rt.alloc(), text)? {
         Ok(script) => Ok(Some(script)),
         Err(trouble) => {
-            print::trouble(rt, trouble)?;
+            println!(rt; "{trouble}; nothing was tried")?;
             Ok(None)
         }
     }

@@ -1,27 +1,12 @@
 // What the desk prints.
-use calls::script::Trouble;
 use charge::money::Money;
-use input::{print_refusal, print_text};
+use input::{print_refusal, print_sheet};
 use job::list::{Answer, Call, Entry};
 use planner::planned::Planned;
 use refusal::Refusal;
-use sheet::page::sheet;
 use site::run::{Request, Step};
 use std::io;
 use survey::sealed::Sealed;
-
-// Why the text cannot be read.
-pub fn trouble(rt: &HostRuntime, trouble: Trouble) -> io::Result<()> {
-    match trouble {
-        Trouble::NoCall(number) => println!(rt;
-            "line {number} cannot be read: it is not \"close W\", \"reopen W\" or \"plan START END BOUND\"; nothing was tried"
-        ),
-        Trouble::NoPlan(number) => println!(rt;
-            "line {number}, the last, is not a plan; nothing was tried"
-        ),
-        Trouble::NoLines => println!(rt; "the text has no line; nothing was tried"),
-    }
-}
 
 // What was done: a way was closed or reopened.
 fn done(rt: &HostRuntime, call: Call) -> io::Result<()> {
@@ -58,10 +43,6 @@ pub fn print_last(
         Ok(planned) => planned.steps.min(run.len()),
         Err(refusal) => return print_refusal(rt, refusal),
     };
-    let size = count.saturating_add(2).saturating_mul(128);
-    let mut page = vec![in rt.alloc(); 0u8; size]?;
-    match sheet(survey, request, &run[0..count], &mut page) {
-        Ok(length) => print_text(rt, &page, length),
-        Err(refusal) => print_refusal(rt, refusal),
-    }
+    let most = count.saturating_add(2).saturating_mul(128);
+    print_sheet(rt, survey, request, &run[..count], most)
 }

@@ -1,7 +1,8 @@
 -- One line more goes from what is left to what was read, and where nothing is left all was read. A line that is no call is the
 -- first of what is left.
-use Rattle.std.proofs.Common.{◌≡◌, ◌+◌, ◌<◌, ◌≤◌, List, [], ◌∷◌, length, vec_items, sym, refl, ap, ◌∙◌, subst, inl, arith, length-append, rules}
+use Rattle.std.proofs.Common.{◌≡◌, ◌<◌, List, length, vec_items, sym, refl, ap, ◌∙◌, subst, inl, arith}
 use Rattle.std.proofs.ByRecursion.{All-push}
+use Rattle.std.proofs.lemmas.List.{length-map}
 use Rattle.std.proofs.lemmas.Option.{MatchOption-at_some, MatchOption-at_none}
 use Rattle.charge.specs.declared.money.Money.{Money}
 use Rattle.job.specs.declared.list.Call.{Call}
@@ -10,7 +11,7 @@ use Rattle.job.specs.declared.list.Answer.TheVariants.{Untried}
 use Rattle.job.specs.Replay.{calls_of}
 use Rattle.calls.specs.Texts.{call_text, NoCall}
 use Rattle.calls.specs.Scripts.{AllUntried}
-use Rattle.calls.proofs.Listing.{Reading, reading_more, reading_all, reading_rest, cut_shorter, calls_push, some_long, not_empty, empty}
+use Rattle.calls.proofs.Listing.{Reading, reading_more, reading_all, reading_rest, cut_shorter, calls_push, not_empty, empty}
 use Rattle.calls.proofs.script.read_lines.Goals as goal
 
 pub loop-rest-init : goal.loop-rest-init
@@ -18,16 +19,8 @@ loop-rest-init c =
     let none = c.new-entries.ensures.items in (
       subst (λ (es : List (Entry Money)). Reading c.args.text.now (calls_of es) c.args.text.now) (sym none) (inl refl),
       subst AllUntried (sym none) tt,
-      ap (λ (es : List (Entry Money)). length (calls_of es)) (sym none),
-      omega arith,
+      omega (arith, c.new-entries.ensures),
     )
-
-pub overflow_add-number : goal.overflow_add-number
-overflow_add-number c =
-    let few = c.loop-rest.invariant.3 in
-    let left = some_long c.loop-rest.rest.now c.loop-rest-test.ensures in
-    let below : c.loop-rest.number + 1 ≤ length c.args.text.now = omega arith in
-    search rules
 
 pub returns-in-None : goal.returns-in-None
 returns-in-None c =
@@ -43,7 +36,7 @@ returns-in-None c =
       some = some;
       first = c.cut_line.ensures;
       no_call = MatchOption-at_none (NoCall line) (λ (k : Call). line ≡ call_text k) c.in-None.is c.in_ok-call.ensures;
-      counted = ap (λ n. n + 1) c.loop-rest.invariant.2;
+      counted = omega (arith, c.len.ensures, length-map (vec_items c.loop-rest.entries) (λ (e : Entry Money). e.call));
     }
 
 pub loop-rest-smaller : goal.loop-rest-smaller
@@ -65,8 +58,7 @@ loop-rest-preserved c =
     let shorter : length others < length c.loop-rest.rest.now = cut_shorter c.loop-rest.rest.now line others some c.cut_line.ensures.cut in (
       subst (λ (cs : List Call). Reading text cs others) (sym calls) more,
       subst AllUntried (sym items) (All-push (λ (e : Entry Money). e.answer ≡ Untried) entries new c.loop-rest.invariant.1 refl),
-      ap (λ n. n + 1) c.loop-rest.invariant.2 ∙ sym (ap length calls ∙ length-append (calls_of entries) (call ∷ [])),
-      omega (arith, c.loop-rest.invariant.3),
+      omega (arith, c.loop-rest.invariant.2, c.in_ok-push-in-Some.ensures),
     )
 
 pub returns : goal.returns
