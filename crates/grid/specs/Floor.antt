@@ -4,6 +4,8 @@
 use Rattle.std.specs.Prelude.{ℕ, ◌+◌, ◌-◌, ◌*◌, ◌/◌, ◌%◌, Bool, cond, Some, None, Option, ◌==◌, nat_le, nat_lt}
 use Rattle.site.specs.declared.way.Way.{Way}
 use Rattle.site.specs.Meaning.{SiteMeaning}
+use Rattle.grid.specs.declared.grid.floor.Direction.{Direction}
+use Rattle.grid.specs.declared.grid.floor.Direction.TheVariants.{Right, Left, Down, Up}
 
 pub record Floor (C : Type 0) : Type 0 where
   pub rows : ℕ
@@ -37,6 +39,13 @@ below rows columns row column = cond (nat_lt (row + 1) rows) (Some (place_at col
 
 abbrev pub above : ℕ → ℕ → ℕ → Option ℕ
 above columns row column = cond (nat_lt 0 row) (Some (place_at columns (row - 1) column)) None
+
+-- the number of a direction among the ways of a place
+abbrev pub number_of : Direction → ℕ
+number_of Right = 0
+number_of Left = 1
+number_of Down = 2
+number_of Up = 3
 
 -- the place to which a direction leads from a row and a column: 0 is right, 1 left, 2 down, 3 up
 abbrev pub towards : ℕ → ℕ → ℕ → ℕ → ℕ → Option ℕ

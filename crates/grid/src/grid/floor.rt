@@ -1,6 +1,6 @@
-ghost use Rattle.std.specs.Prelude.{◌≡◌, ℕ, ◌+◌, ◌*◌, ◌<◌, ◌≤◌, if◌then◌else◌, Ok, Err};
+ghost use Rattle.std.specs.Prelude.{◌≡◌, ℕ, ◌+◌, ◌*◌, ◌%◌, ◌<◌, ◌≤◌, if◌then◌else◌, Ok, Err};
 ghost use Rattle.refusal.specs.declared.Refusal.TheVariants.{WrongSide};
-ghost use Rattle.grid.specs.Floor.{floor, neighbour, side_fits, floor_site};
+ghost use Rattle.grid.specs.Floor.{floor, number_of, neighbour, side_fits, floor_site};
 ghost use Rattle.grid.specs.Grids.{floor_of, floor_in};
 ghost use Rattle.grid.specs.Bounds.{grid_bounded};
 
@@ -10,6 +10,27 @@ use refusal::Refusal;
 use site::site::Site;
 use site::way::Way;
 
+// Where a way leads from its place.
+#[derive(Clone, Copy)]
+pub(crate) enum Direction {
+    Right,
+    Left,
+    Down,
+    Up,
+}
+
+// The direction of a way, by its number: the four in turn.
+fn direction_of(way: usize) -> Direction
+    ensures { number_of result ≡ way % 4 }
+{
+    match way % 4 {
+        0 => Direction::Right,
+        1 => Direction::Left,
+        2 => Direction::Down,
+        _ => Direction::Up,
+    }
+}
+
 // Whether a grid can have a side of so many places.
 fn side_fits(side: usize) -> bool
     ensures { result ≡ side_fits side }
@@ -17,21 +38,21 @@ fn side_fits(side: usize) -> bool
     side > 0 && side <= 64
 }
 
-// The place next to a place in a direction: right, left, down and up are 0 to 3. None where that would leave the grid.
-fn next_to(rows: usize, columns: usize, place: usize, direction: usize) -> Option<usize>
+// The place next to a place in a direction. None where that would leave the grid.
+fn next_to(rows: usize, columns: usize, place: usize, direction: Direction) -> Option<usize>
     requires rows { rows ≤ 64 }
     requires some { 0 < columns }
     requires columns { columns ≤ 64 }
     requires place { place < rows * columns }
-    ensures { result ≡ neighbour rows columns place direction }
+    ensures { result ≡ neighbour rows columns place (number_of direction) }
 {
     let row = place / columns;
     let column = place % columns;
     match direction {
-        0 if column + 1 < columns => Some(row * columns + (column + 1)),
-        1 if column > 0 => Some(row * columns + (column - 1)),
-        2 if row + 1 < rows => Some((row + 1) * columns + column),
-        3 if row > 0 => Some((row - 1) * columns + column),
+        Direction::Right if column + 1 < columns => Some(row * columns + (column + 1)),
+        Direction::Left if column > 0 => Some(row * columns + (column - 1)),
+        Direction::Down if row + 1 < rows => Some((row + 1) * columns + column),
+        Direction::Up if row > 0 => Some((row - 1) * columns + column),
         _ => None,
     }
 }
@@ -88,7 +109,7 @@ impl<C: Charge> Site for FloorGrid<C> {
             return None;
         }
         let from = number / 4;
-        let to = next_to(self.rows, self.columns, from, number % 4)?;
+        let to = next_to(self.rows, self.columns, from, direction_of(number))?;
         Some(Way {
             from,
             to,
