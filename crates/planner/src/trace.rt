@@ -1,15 +1,26 @@
-ghost use Rattle.std.specs.Prelude.{◌≡◌, ◌≤◌, length, take, drop};
+ghost use Rattle.std.specs.Prelude.{◌≡◌, ◌<◌, ◌≤◌, length, take, drop, Some, IsSome, slice_set};
 ghost use Rattle.site.specs.Runs.{Least, NoneTwice};
 ghost use Rattle.site.specs.Whole.{kind_of};
-ghost use Rattle.search.specs.Rows.{Found};
+ghost use Rattle.search.specs.Rows.{Found, reached_in};
 ghost use Rattle.search.specs.Columns.{cells_of};
 
 use crate::offer::reached_at;
 use crate::planned::Planned;
 use charge::kind::Charge;
-use search::cell::Row;
+use search::cell::{Link, Reached, Row};
 use site::run::{Request, Step};
 use site::site::Site;
+
+// Goes back over a link: writes its step at the place `at`, and answers how the cell that it was taken from was reached.
+fn one_back<C: Charge>(cells: &[Row<C>], link: Link, run: &mut [Step], at: usize) -> Reached<C>
+    requires inside { at < length run.old }
+    requires reached { IsSome (reached_in (cells_of cells.now) link.from) }
+    ensures wrote { run.new ≡ slice_set run.old at link.step }
+    ensures reached { reached_in (cells_of cells.now) link.from ≡ Some result }
+{
+    run[at] = link.step;
+    reached_at(cells, link.from)
+}
 
 // Writes the run that led to the cell `last`, from its last step to its first, and answers its length and its total.
 pub fn trace<S: Site>(
@@ -29,9 +40,7 @@ pub fn trace<S: Site>(
     let end = reached_at(cells, last);
     let mut here = end;
     for left in (0..end.steps).rev() {
-        let link = here.link.unwrap();
-        run[left] = link.step;
-        here = reached_at(cells, link.from);
+        here = one_back(cells, here.link.unwrap(), run, left);
     }
     Planned {
         steps: end.steps,

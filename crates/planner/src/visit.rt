@@ -1,7 +1,7 @@
-ghost use Rattle.std.specs.Prelude.{◌≡◌, ◌<◌, ◌≤◌, min, true, false, length};
+ghost use Rattle.std.specs.Prelude.{◌≡◌, ◌<◌, ◌≤◌, min, true, false, length, IsSome};
 ghost use Rattle.site.specs.Whole.{kind_of};
 ghost use Rattle.search.specs.Search.{Searching, Dominated};
-ghost use Rattle.search.specs.Rows.{Turn, Room, Books, done_in, settled_count};
+ghost use Rattle.search.specs.Rows.{Turn, Room, Books, settled_as, done_in, settled_count};
 ghost use Rattle.search.specs.Columns.{cells_of, heads_of, nexts_of, SameIndex};
 ghost use Rattle.search.specs.Index.{Indexed};
 
@@ -22,6 +22,13 @@ fn set_hint<C>(cells: &mut [Row<C>], at: usize, hint: usize)
     cells[at].hint = Some(hint);
 }
 
+// Whether a cell is settled.
+fn is_settled<C: Charge>(cell: Cell<C>) -> bool
+    ensures { result ≡ true → IsSome (settled_as cell) }
+{
+    matches!(cell, Cell::Settled(_))
+}
+
 #[tactic(auto, using(search::proofs::Trails::place_below))]
 // Whether the cell that the place's row hints at dominates the cell `at`: it is another one of the same place, settled,
 // with no more loss. Everything about the hint is looked at, so it need not be a good one.
@@ -40,7 +47,7 @@ fn dominated<C: Charge>(request: Request, cells: &[Row<C>], at: usize) -> bool
     if place_of(request, hint) != place || loss_of(request, hint) > loss_of(request, at) {
         return false;
     }
-    matches!(cells[hint].cell, Cell::Settled(_))
+    is_settled(cells[hint].cell)
 }
 
 // Offers the ways out of the cell `at`, which was settled just now, unless it is dominated: then each of them leads where

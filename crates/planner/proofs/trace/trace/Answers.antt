@@ -54,11 +54,18 @@ loop-left-init g c =
     let tr = subst (λ z. Trail k m ask rows c.args.last z [] z.charge) (some_same (sym f.row ∙ c.reached_at-end.ensures)) (trail_end k m ask rows c.args.last f) in
     (refl, refl, (c.args.last, c.reached_at-end.ensures, subst (λ (rest : List Step). Trail k m ask rows c.args.last end rest end.charge) (sym (nothing_left c.args.run.now end.steps)) tr))
 
-pub unwrap-link-requires : goal.unwrap-link-requires
-unwrap-link-requires g c = let inv = c.loop-left.invariant in has_link c.requires.found inv.2.0 c.loop-left.here inv.2.1 (omega arith)
+pub unwrap-requires : goal.unwrap-requires
+unwrap-requires g c = let inv = c.loop-left.invariant in has_link c.requires.found inv.2.0 c.loop-left.here inv.2.1 (omega arith)
 
-pub reached_at-here-requires : goal.reached_at-here-requires
-reached_at-here-requires g c = let inv = c.loop-left.invariant in ap is_some (from c.requires.found inv.2.0 c.loop-left.here inv.2.1 (omega arith) c.unwrap-link.result c.unwrap-link.ensures)
+pub one_back-here-requires : goal.one_back-here-requires
+one_back-here-requires g c =
+    let inv = c.loop-left.invariant in
+    let few = few_steps c.requires.found c.reached_at-end.result c.reached_at-end.ensures in
+    let size = length-map c.args.cells.now (λ r. r.cell) in
+    record {
+      inside = omega (arith, c.requires.room, c.loop-left.auto.run, c.loop-left.auto.left);
+      reached = ap is_some (from c.requires.found inv.2.0 c.loop-left.here inv.2.1 (omega arith) c.unwrap.result c.unwrap.ensures);
+    }
 
 pub loop-left-preserved : goal.loop-left-preserved
 loop-left-preserved g c =
@@ -73,21 +80,22 @@ loop-left-preserved g c =
     let run = c.loop-left.run in
     let end = c.reached_at-end.result in
     let here = c.loop-left.here in
-    let link = c.unwrap-link.result in
+    let link = c.unwrap.result in
     let more : 0 < here.steps = omega arith in
     let before = (next f w.0 here w.1 more).before in
-    let there = from f w.0 here w.1 more link c.unwrap-link.ensures in
-    let q : before ≡ c.reached_at-here.result = some_same (sym there ∙ c.reached_at-here.ensures) in
+    let there = from f w.0 here w.1 more link c.unwrap.ensures in
+    let q : before ≡ c.one_back-here.result = some_same (sym there ∙ c.one_back-here.ensures.reached) in
     let rest = drop left (take end.steps run) in
-    let tr = subst (λ z. Trail k m ask rows link.from z (link.step ∷ rest) end.charge) q (on f w.0 here w.1 more link c.unwrap-link.ensures rest end.charge w.2) in
+    let tr = subst (λ z. Trail k m ask rows link.from z (link.step ∷ rest) end.charge) q (on f w.0 here w.1 more link c.unwrap.ensures rest end.charge w.2) in
     let total = few_steps f end c.reached_at-end.ensures in
     let size = length-map c.args.cells.now (λ r. r.cell) in
     let again : drop (left - 1) (take end.steps (set run (left - 1) link.step)) ≡ link.step ∷ rest =
     back_more run (left - 1) end.steps link.step (omega arith) (omega (arith, c.requires.room, c.loop-left.auto.run)) ∙ ap (λ (i : ℕ). link.step ∷ drop i (take end.steps run)) (let one : suc (left - 1) ≡ left = omega arith in one) in
+    let wrote = c.one_back-here.ensures.wrote in
     let fewer = (next f w.0 here w.1 more).steps in (
-      behind_same run (left - 1) end.steps link.step (omega arith) ∙ inv.0,
+      ap (drop end.steps) wrote ∙ behind_same run (left - 1) end.steps link.step (omega arith) ∙ inv.0,
       ap (λ (z : Reached _). z.steps) (sym q) ∙ (let z : before.steps ≡ left - 1 = omega arith in z),
-      (link.from, c.reached_at-here.ensures, subst (λ (r : List Step). Trail k m ask rows link.from c.reached_at-here.result r end.charge) (sym again) tr),
+      (link.from, c.one_back-here.ensures.reached, subst (λ (r : List Step). Trail k m ask rows link.from c.one_back-here.result r end.charge) (sym (ap (λ (q : List Step). drop (left - 1) (take end.steps q)) wrote ∙ again)) tr),
     )
 
 pub returns : goal.returns
