@@ -4,7 +4,7 @@ use calls::script::Script;
 use charge::money::Money;
 use heap::Heap;
 use job::replay::replay;
-use search::cell::{Cell, Row, State};
+use search::cell::Row;
 use site::run::Step;
 use site::site::Site;
 use slots::slot::Slot;
@@ -14,20 +14,7 @@ use views::money::MoneyView;
 
 // Working memory of which nothing is read before it is written.
 fn cell_rows(heap: Global, many: usize) -> Result<Vec<Row<Money>>, AllocError> {
-    let cell = Cell {
-        charge: Money { cents: 0 },
-        state: State::Unseen,
-        from: 0,
-        way: 0,
-        mark: false,
-        steps: 0,
-    };
-    vec![in heap; Row {
-        cell,
-        hint: 0,
-        head: 0,
-        next: 0
-    }; many]
+    vec![in heap; Row::blank(); many]
 }
 
 fn queue_rows(heap: Global, many: usize) -> Result<Vec<Slot<Money>>, AllocError> {

@@ -9,7 +9,7 @@ use ordered_row::OrderedRow;
 use planner::plan::plan;
 use planner::planned::Planned;
 use refusal::Refusal;
-use search::cell::{Cell, Row, State};
+use search::cell::{Cell, Link, Reached, Row};
 use site::run::{Request, Step};
 use site::site::Site;
 use slots::slot::Slot;
@@ -50,19 +50,18 @@ impl<C: Charge + Clone> Memory<C> {
         ensures { IfOk result (λ m. (vec_len m.cells ≡ rows.cells) × (vec_len m.slots ≡ rows.slots) × (vec_len m.run ≡ rows.steps)) }
     {
         let charge = C::nothing();
-        let cell = Cell {
-            charge,
-            state: State::Settled,
-            from: 3,
-            way: 7,
-            mark: true,
-            steps: 5,
-        };
         let row = Row {
-            cell,
-            hint: 9,
-            head: 2,
-            next: 1,
+            cell: Cell::Settled(Reached {
+                charge,
+                link: Some(Link {
+                    from: 3,
+                    step: Step { way: 7, mark: true },
+                }),
+                steps: 5,
+            }),
+            hint: Some(9),
+            head: Some(1),
+            next: Some(0),
         };
         let slot = Slot {
             charge,

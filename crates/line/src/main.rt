@@ -6,7 +6,7 @@ use charge::money::Money;
 use heap::Heap;
 use input::{print_fault, print_refusal, print_sheet, read_input, request_in};
 use relays::plan_for_money;
-use search::cell::{Cell, Row, State};
+use search::cell::Row;
 use site::run::{Request, Step};
 use slots::slot::Slot;
 use std::alloc::{AllocError, Global};
@@ -25,21 +25,7 @@ const PAGE: usize = 65536;
 
 // Working memory, empty.
 fn cell_rows(heap: Global) -> Result<Vec<Row<Money>>, AllocError> {
-    let charge = Money { cents: 0 };
-    let cell = Cell {
-        charge,
-        state: State::Unseen,
-        from: 0,
-        way: 0,
-        mark: false,
-        steps: 0,
-    };
-    vec![in heap; Row {
-        cell,
-        hint: 0,
-        head: 0,
-        next: 0
-    }; ROWS]
+    vec![in heap; Row::blank(); ROWS]
 }
 
 fn queue_rows(heap: Global) -> Result<Vec<Slot<Money>>, AllocError> {

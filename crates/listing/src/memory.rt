@@ -3,7 +3,7 @@ use charge::kind::Charge;
 use heap::Heap;
 use ordered_row::OrderedRow;
 use planner::plan::plan;
-use search::cell::{Cell, Row, State};
+use search::cell::{Cell, Link, Reached, Row};
 use site::run::{Request, Step};
 use site::site::Site;
 use slots::slot::Slot;
@@ -21,24 +21,20 @@ pub struct Memory<C> {
 
 impl<C: Charge + Clone> Memory<C> {
     pub fn new(heap: Global, charge: C) -> Result<Memory<C>, AllocError> {
-        let cell = Cell {
-            charge,
-            state: State::Settled,
-            from: 3,
-            way: 7,
-            mark: true,
-            steps: 5,
+        let row = Row {
+            cell: Cell::Settled(Reached {
+                charge,
+                link: Some(Link {
+                    from: 3,
+                    step: Step { way: 7, mark: true },
+                }),
+                steps: 5,
+            }),
+            hint: Some(9),
+            head: Some(1),
+            next: Some(0),
         };
-        let cells = Vec::from_elem(
-            heap,
-            Row {
-                cell,
-                hint: 9,
-                head: 2,
-                next: 1,
-            },
-            ROWS,
-        )?;
+        let cells = Vec::from_elem(heap, row, ROWS)?;
         let slots = Vec::from_elem(
             heap,
             Slot {

@@ -5,7 +5,7 @@ use charge::money::Money;
 use grid::grid::FloorGrid;
 use heap::Heap;
 use planner::plan::plan;
-use search::cell::{Cell, Row, State};
+use search::cell::{Cell, Reached, Row};
 use site::run::{Request, Step};
 use site::site::Site;
 use slots::slot::Slot;
@@ -13,24 +13,17 @@ use std::alloc::{AllocError, Global};
 
 // Cell rows that hold anything.
 fn cell_rows(memory: Global, many: usize) -> Result<Vec<Row<Money>>, AllocError> {
-    let cell = Cell {
-        charge: Money { cents: 1 },
-        state: State::Settled,
-        from: 0,
-        way: 0,
-        mark: false,
-        steps: 0,
+    let row = Row {
+        cell: Cell::Settled(Reached {
+            charge: Money { cents: 1 },
+            link: None,
+            steps: 0,
+        }),
+        hint: None,
+        head: None,
+        next: None,
     };
-    Vec::from_elem(
-        memory,
-        Row {
-            cell,
-            hint: 0,
-            head: 0,
-            next: 0,
-        },
-        many,
-    )
+    Vec::from_elem(memory, row, many)
 }
 
 // Queue rows that hold anything.

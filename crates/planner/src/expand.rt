@@ -7,12 +7,11 @@ ghost use Rattle.search.specs.Rows.{Turn, Room, Books, done_in, settled_count};
 ghost use Rattle.search.specs.Columns.{cells_of, heads_of, nexts_of, SameIndex};
 ghost use Rattle.search.specs.Index.{Indexed};
 
-use crate::index::{head_at, next_at, smaller};
 use crate::number::{cell_of, loss_of, place_of};
 use crate::offer::offer;
 use charge::kind::Charge;
 use queue::queue::PriorityQueue;
-use search::cell::{Cell, Row, State};
+use search::cell::{Link, Reached, Row};
 use search::step::{charge_after, loss_after, markable, within_bound};
 use site::run::{Request, Step};
 use site::site::Site;
@@ -25,7 +24,7 @@ fn arrive<S: Site, Q: PriorityQueue<Charge = S::Charge>>(
     cells: &mut [Row<S::Charge>],
     queue: &mut Q,
     at: usize,
-    here: Cell<S::Charge>,
+    here: Reached<S::Charge>,
     step: Step,
     w: Way<S::Charge>,
 )
@@ -48,12 +47,9 @@ fn arrive<S: Site, Q: PriorityQueue<Charge = S::Charge>>(
         cells,
         queue,
         target,
-        Cell {
+        Reached {
             charge,
-            state: State::Waiting,
-            from: at,
-            way: step.way,
-            mark: step.mark,
+            link: Some(Link { from: at, step }),
             steps: here.steps + 1,
         },
     );
@@ -66,7 +62,7 @@ fn offer_way<S: Site, Q: PriorityQueue<Charge = S::Charge>>(
     cells: &mut [Row<S::Charge>],
     queue: &mut Q,
     at: usize,
-    here: Cell<S::Charge>,
+    here: Reached<S::Charge>,
     n: usize,
 )
     requires room { Room (S.Site.meaning site.now) request (length cells.old) (Q.PriorityQueue.many queue.old) }
@@ -115,6 +111,7 @@ fn offer_way<S: Site, Q: PriorityQueue<Charge = S::Charge>>(
     }
 }
 
+#[tactic(auto, using(search::proofs::Trails::place_below))]
 // Offers every way out of the settled cell `at`: first those past the index, one by one, then those that the index has.
 pub fn expand<S: Site, Q: PriorityQueue<Charge = S::Charge>>(
     site: &S,
@@ -122,7 +119,7 @@ pub fn expand<S: Site, Q: PriorityQueue<Charge = S::Charge>>(
     cells: &mut [Row<S::Charge>],
     queue: &mut Q,
     at: usize,
-    here: Cell<S::Charge>,
+    here: Reached<S::Charge>,
 )
     requires room { Room (S.Site.meaning site.now) request (length cells.old) (Q.PriorityQueue.many queue.old) }
     requires indexed { Indexed (S.Site.meaning site.now) (heads_of cells.old) (nexts_of cells.old) (min (S.Site.meaning site.now).ways (length cells.old)) }
@@ -137,14 +134,13 @@ pub fn expand<S: Site, Q: PriorityQueue<Charge = S::Charge>>(
     ensures books { Books (kind_of S.Charge.Charge) (S.Site.meaning site.now) request (cells_of cells.new) (Q.PriorityQueue.waits queue.new) }
 {
     let ways = site.ways();
-    let limit = smaller(ways, cells.len());
+    let limit = ways.min(cells.len());
     for n in limit..ways {
         offer_way(site, request, cells, queue, at, here, n);
     }
-    let mut after = head_at(cells, place_of(request, at));
-    while after > 0 {
-        let way = after - 1;
+    let mut after = cells[place_of(request, at)].head;
+    while let Some(way) = after {
         offer_way(site, request, cells, queue, at, here, way);
-        after = next_at(cells, way);
+        after = cells[way].next;
     }
 }

@@ -1,38 +1,31 @@
-ghost use Rattle.std.specs.Prelude.{◌≡◌, ◌<◌, ◌≤◌, min, true, false, ◌≢◌, List, length, MatchOption};
+ghost use Rattle.std.specs.Prelude.{◌≡◌, ◌<◌, ◌≤◌, min, true, false, ◌≢◌, List, length, IsSome, MatchOption};
 ghost use Rattle.site.specs.Runs.{Run};
 ghost use Rattle.site.specs.declared.run.Step.{Step};
 ghost use Rattle.site.specs.Whole.{kind_of};
 ghost use Rattle.search.specs.Cells.{place_of};
 ghost use Rattle.search.specs.Search.{Searching};
-ghost use Rattle.search.specs.Rows.{Room, Books, Settling, Found, done_in};
+ghost use Rattle.search.specs.Rows.{Room, Books, Settling, Found, reached_in, done_in};
 ghost use Rattle.search.specs.Columns.{cells_of, heads_of, nexts_of, SameIndex};
 ghost use Rattle.search.specs.Index.{Indexed};
 
 use crate::number::place_of;
-use crate::offer::{row_at, set_row};
+use crate::offer::reached_at;
 use crate::visit::visit;
 use charge::kind::Charge;
 use queue::queue::PriorityQueue;
-use search::cell::{Cell, Row, State};
+use search::cell::{Cell, Reached, Row};
 use site::run::Request;
 use site::site::Site;
 
-// Settles the cell `at` as it stands, and answers what is known of it.
-fn settle<C: Charge>(cells: &mut [Row<C>], at: usize) -> Cell<C>
-    requires { at < length cells.old }
+// Settles the cell `at` as it was reached, and answers how that was.
+fn settle<C: Charge>(cells: &mut [Row<C>], at: usize) -> Reached<C>
+    requires inside { at < length cells.old }
+    requires reached { IsSome (reached_in (cells_of cells.old) at) }
     ensures index { SameIndex cells.old cells.new }
     ensures settling { Settling (cells_of cells.old) (cells_of cells.new) at result }
 {
-    let old = row_at(cells, at);
-    let here = Cell {
-        charge: old.charge,
-        state: State::Settled,
-        from: old.from,
-        way: old.way,
-        mark: old.mark,
-        steps: old.steps,
-    };
-    set_row(cells, at, here);
+    let here = reached_at(cells, at);
+    cells[at].cell = Cell::Settled(here);
     here
 }
 
@@ -62,7 +55,7 @@ pub fn seek<S: Site, Q: PriorityQueue<Charge = S::Charge>>(
     ensures ordered { Q.PriorityQueue.ordered queue.new }
     ensures answer { MatchOption result ((run : List Step) → Run (S.Site.meaning site.now) request run → ⊥) (λ x. Found (kind_of S.Charge.Charge) (S.Site.meaning site.now) request (cells_of cells.new) x) }
 {
-    while let Some((at, charge)) = queue.take() {
+    while let Some((at, _)) = queue.take() {
         if ends(request, at) {
             return Some(at);
         }

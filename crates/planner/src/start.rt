@@ -1,38 +1,25 @@
-ghost use Rattle.std.specs.Prelude.{◌≡◌, ℕ, ◌<◌, min, length, slice_index};
+ghost use Rattle.std.specs.Prelude.{◌≡◌, ◌<◌, min, length, replicate};
 ghost use Rattle.site.specs.Whole.{kind_of};
 ghost use Rattle.search.specs.Search.{Searching};
-ghost use Rattle.search.specs.Rows.{Room, Books, Blank, done_in};
-ghost use Rattle.search.specs.Columns.{cells_of, heads_of, nexts_of};
+ghost use Rattle.search.specs.Rows.{Room, Books, done_in};
+ghost use Rattle.search.specs.Columns.{cells_of, heads_of, nexts_of, blank_row};
 ghost use Rattle.search.specs.Index.{Indexed};
 
 use crate::index::build;
 use crate::number::cell_of;
-use crate::offer::{enter, set_row};
+use crate::offer::wait;
 use charge::kind::Charge;
 use queue::queue::PriorityQueue;
-use search::cell::{Cell, Row, State};
+use search::cell::{Reached, Row};
 use site::run::Request;
 use site::site::Site;
 
 // Makes every row blank, whatever it held.
 fn clear<C: Charge>(cells: &mut [Row<C>])
-    ensures blank { Blank (cells_of cells.new) (length cells.old) }
-    ensures heads { (p : ℕ) → slice_index (heads_of cells.new) p ≡ 0 }
+    ensures { cells.new ≡ replicate (length cells.old) blank_row }
 {
-    for i in 0..cells.len() {
-        cells[i] = Row {
-            cell: Cell {
-                charge: C::nothing(),
-                state: State::Unseen,
-                from: 0,
-                way: 0,
-                mark: false,
-                steps: 0,
-            },
-            hint: 0,
-            head: 0,
-            next: 0,
-        };
+    for row in cells.iter_mut() {
+        *row = Row::blank();
     }
 }
 
@@ -55,17 +42,14 @@ pub fn begin<S: Site, Q: PriorityQueue<Charge = S::Charge>>(
     build(site, cells);
     queue.clear();
     let first = cell_of(request, request.start, 0);
-    set_row(
+    wait(
         cells,
+        queue,
         first,
-        Cell {
+        Reached {
             charge: S::Charge::nothing(),
-            state: State::Waiting,
-            from: 0,
-            way: 0,
-            mark: false,
+            link: None,
             steps: 0,
         },
     );
-    enter(queue, first, S::Charge::nothing());
 }

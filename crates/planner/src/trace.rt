@@ -1,22 +1,25 @@
-ghost use Rattle.std.specs.Prelude.{◌≡◌, ◌<◌, ◌≤◌, length, take, drop, slice_set};
+ghost use Rattle.std.specs.Prelude.{◌≡◌, ◌<◌, ◌≤◌, length, take, drop, Some, IsSome, slice_set};
 ghost use Rattle.site.specs.Runs.{Least, NoneTwice};
 ghost use Rattle.site.specs.Whole.{kind_of};
-ghost use Rattle.search.specs.Rows.{Found};
+ghost use Rattle.search.specs.Rows.{Found, reached_in};
 ghost use Rattle.search.specs.Columns.{cells_of};
 
-use crate::offer::row_at;
+use crate::offer::reached_at;
 use crate::planned::Planned;
 use charge::kind::Charge;
-use search::cell::{Cell, Row};
+use search::cell::{Link, Reached, Row};
 use site::run::{Request, Step};
 use site::site::Site;
 
-// Writes one step.
-fn put_step(run: &mut [Step], at: usize, step: Step)
-    requires { at < length run.old }
-    ensures { run.new ≡ slice_set run.old at step }
+// Goes back over a link: writes its step at the place `at`, and answers how the cell that it was taken from was reached.
+fn one_back<C: Charge>(cells: &[Row<C>], link: Link, run: &mut [Step], at: usize) -> Reached<C>
+    requires inside { at < length run.old }
+    requires reached { IsSome (reached_in (cells_of cells.now) link.from) }
+    ensures wrote { run.new ≡ slice_set run.old at link.step }
+    ensures reached { reached_in (cells_of cells.now) link.from ≡ Some result }
 {
-    run[at] = step;
+    run[at] = link.step;
+    reached_at(cells, link.from)
 }
 
 // Writes the run that led to the cell `last`, from its last step to its first, and answers its length and its total.
@@ -34,21 +37,10 @@ pub fn trace<S: Site>(
     ensures once { NoneTwice (S.Site.meaning site.now) request.now.start 0 (take result.steps run.new) }
     ensures behind { drop result.steps run.new ≡ drop result.steps run.old }
 {
-    let end = row_at(cells, last);
-    let mut at = last;
-    let mut left = end.steps;
-    while left > 0 {
-        let row = row_at(cells, at);
-        left -= 1;
-        put_step(
-            run,
-            left,
-            Step {
-                way: row.way,
-                mark: row.mark,
-            },
-        );
-        at = row.from;
+    let end = reached_at(cells, last);
+    let mut here = end;
+    for left in (0..end.steps).rev() {
+        here = one_back(cells, here.link.unwrap(), run, left);
     }
     Planned {
         steps: end.steps,

@@ -1,48 +1,35 @@
-ghost use Rattle.std.specs.Prelude.{◌≡◌, ◌<◌, ◌≤◌, min, true, false, length};
+ghost use Rattle.std.specs.Prelude.{◌≡◌, ◌<◌, ◌≤◌, min, true, false, length, IsSome};
 ghost use Rattle.site.specs.Whole.{kind_of};
 ghost use Rattle.search.specs.Search.{Searching, Dominated};
-ghost use Rattle.search.specs.Rows.{Turn, Room, Books, done_in, settled_count};
+ghost use Rattle.search.specs.Rows.{Turn, Room, Books, settled_as, done_in, settled_count};
 ghost use Rattle.search.specs.Columns.{cells_of, heads_of, nexts_of, SameIndex};
-ghost use Rattle.search.specs.declared.cell.State.{State};
-ghost use Rattle.search.specs.declared.cell.State.TheVariants.{Settled};
 ghost use Rattle.search.specs.Index.{Indexed};
 
 use crate::expand::expand;
 use crate::number::{loss_of, place_of};
-use crate::offer::row_at;
 use charge::kind::Charge;
 use queue::queue::PriorityQueue;
-use search::cell::{Cell, Row, State};
+use search::cell::{Cell, Reached, Row};
 use site::run::Request;
 use site::site::Site;
 
-// The cell that the row of the place `at` hints at; it may be any number.
-fn hint_at<C: Charge>(cells: &[Row<C>], at: usize) -> usize
-    requires { at < length cells.now }
-{
-    cells[at].hint
-}
-
 // Lets the row of the place `at` hint at a cell.
-fn set_hint<C: Charge>(cells: &mut [Row<C>], at: usize, hint: usize)
+fn set_hint<C>(cells: &mut [Row<C>], at: usize, hint: usize)
     requires { at < length cells.old }
     ensures cells { cells_of cells.new ≡ cells_of cells.old }
     ensures index { SameIndex cells.old cells.new }
 {
-    cells[at].hint = hint;
+    cells[at].hint = Some(hint);
 }
 
-// Whether a state is that of a settled cell.
-fn is_settled(state: State) -> bool
-    ensures { result ≡ true → state ≡ Settled }
+// Whether a cell is settled.
+fn is_settled<C: Charge>(cell: Cell<C>) -> bool
+    ensures { result ≡ true → IsSome (settled_as cell) }
 {
-    match state {
-        State::Settled => true,
-        State::Waiting => false,
-        State::Unseen => false,
-    }
+    matches!(cell, Cell::Settled(_))
 }
 
+#[tactic(auto, using(search::proofs::Trails::place_below))]
 // Whether the cell that the place's row hints at dominates the cell `at`: it is another one of the same place, settled,
 // with no more loss. Everything about the hint is looked at, so it need not be a good one.
 fn dominated<C: Charge>(request: Request, cells: &[Row<C>], at: usize) -> bool
@@ -51,14 +38,16 @@ fn dominated<C: Charge>(request: Request, cells: &[Row<C>], at: usize) -> bool
     ensures { result ≡ true → Dominated request (done_in (cells_of cells.now)) at }
 {
     let place = place_of(request, at);
-    let hint = hint_at(cells, place);
+    let Some(hint) = cells[place].hint else {
+        return false;
+    };
     if hint == at || hint >= cells.len() {
         return false;
     }
     if place_of(request, hint) != place || loss_of(request, hint) > loss_of(request, at) {
         return false;
     }
-    is_settled(row_at(cells, hint).state)
+    is_settled(cells[hint].cell)
 }
 
 // Offers the ways out of the cell `at`, which was settled just now, unless it is dominated: then each of them leads where
@@ -69,7 +58,7 @@ pub fn visit<S: Site, Q: PriorityQueue<Charge = S::Charge>>(
     cells: &mut [Row<S::Charge>],
     queue: &mut Q,
     at: usize,
-    here: Cell<S::Charge>,
+    here: Reached<S::Charge>,
 )
     requires room { Room (S.Site.meaning site.now) request (length cells.old) (Q.PriorityQueue.many queue.old) }
     requires indexed { Indexed (S.Site.meaning site.now) (heads_of cells.old) (nexts_of cells.old) (min (S.Site.meaning site.now).ways (length cells.old)) }

@@ -2,7 +2,6 @@
 -- lawful run and its total recurse; the number of steps falls with every link, so no cell comes twice.
 use Rattle.std.proofs.Common.{◌≡◌, ℕ, zero, suc, ◌+◌, ◌*◌, ◌/◌, ◌%◌, ◌<◌, ◌≤◌, Bool, true, false, List, [], ◌∷◌, length, take, drop, set, Some, sym, refl, ap, ◌∙◌, subst, inl, inr, div-le_self, arith}
 use lib.Arith.{digits_div, digits_mod}
-use Rattle.std.specs.List.{slice_get}
 use Rattle.std.proofs.lemmas.Nat.{div-add-mod'}
 use Rattle.site.specs.declared.run.Step.{Step}
 use Rattle.site.specs.declared.run.Request.{Request}
@@ -10,9 +9,9 @@ use Rattle.site.specs.Meaning.{SiteMeaning}
 use Rattle.charge.specs.Kind.{Kind}
 use Rattle.site.specs.Runs.{Lawful, total_from, after_way, loss_after, Avoids, NoneTwice, place_behind, loss_behind}
 use Rattle.search.specs.Cells.{place_of, loss_of}
-use Rattle.search.specs.Search.{step_of}
-use Rattle.search.specs.Rows.{First, Next, Linked, Trail, Found, Whole}
+use Rattle.search.specs.Rows.{First, Next, Linked, Trail, Found, Whole, reached_row, reached_in}
 use Rattle.search.specs.declared.cell.Cell.{Cell}
+use Rattle.search.specs.declared.cell.Reached.{Reached}
 use Rattle.search.proofs.Turns.{some_same}
 
 -- one place with one loss is one cell
@@ -25,46 +24,43 @@ module _ {C : Type 0} (k : Kind C) (m : SiteMeaning C) (ask : Request) (rows : L
   pub trail_end : (x : ℕ) (f : Found k m ask rows x) → Trail k m ask rows x f.last [] f.last.charge
   trail_end x f = record { lawful = f.end; comes_to = refl; avoids = λ y q e h. tt; once = tt }
 
-  module _ (x : ℕ) (r : Cell C) (rest : List Step) (sum : C) (n : Next k m ask rows x r) (tr : Trail k m ask rows x r rest sum) where
-    step : Step
-    step = step_of r.way r.mark
-
-    there : place_behind (m.way r.way) ≡ place_of ask x
+  module _ (x : ℕ) (r : Reached C) (rest : List Step) (sum : C) (n : Next k m ask rows x r) (tr : Trail k m ask rows x r rest sum) where
+    there : place_behind (m.way n.by.step.way) ≡ place_of ask x
     there = ap place_behind n.goes.opens ∙ sym n.place
 
-    lost : loss_behind (m.way r.way) r.mark (loss_of ask r.from) ≡ loss_of ask x
-    lost = ap (λ o. loss_behind o r.mark (loss_of ask r.from)) n.goes.opens ∙ sym n.loss
+    lost : loss_behind (m.way n.by.step.way) n.by.step.mark (loss_of ask n.by.from) ≡ loss_of ask x
+    lost = ap (λ o. loss_behind o n.by.step.mark (loss_of ask n.by.from)) n.goes.opens ∙ sym n.loss
 
-    avoided : (y : ℕ) (q : Cell C) → slice_get rows y ≡ Some q → q.steps < r.steps → Avoids m (place_of ask y) (loss_of ask y) (place_behind (m.way r.way)) (loss_behind (m.way r.way) r.mark (loss_of ask r.from)) rest
+    avoided : (y : ℕ) (q : Reached C) → reached_in rows y ≡ Some q → q.steps < r.steps → Avoids m (place_of ask y) (loss_of ask y) (place_behind (m.way n.by.step.way)) (loss_behind (m.way n.by.step.way) n.by.step.mark (loss_of ask n.by.from)) rest
     avoided y q e h = rw (there, lost) (tr.avoids y q e h)
 
     -- over one link back
-    pub trail_back : Trail k m ask rows r.from n.before (step_of r.way r.mark ∷ rest) sum
+    pub trail_back : Trail k m ask rows n.by.from n.before (n.by.step ∷ rest) sum
     trail_back = record {
-      lawful = (n.over, n.goes, subst (λ (p : ℕ). Lawful m ask p (loss_after r.mark (loss_of ask r.from + n.over.loss)) rest) n.place (subst (λ (l : ℕ). Lawful m ask (place_of ask x) l rest) n.loss tr.lawful));
-      comes_to = ap (λ o. total_from k m (after_way k m n.before.charge r.mark o) rest) n.goes.opens ∙ ap (λ c. total_from k m c rest) (sym n.charge) ∙ tr.comes_to;
+      lawful = (n.over, n.goes, subst (λ (p : ℕ). Lawful m ask p (loss_after n.by.step.mark (loss_of ask n.by.from + n.over.loss)) rest) n.place (subst (λ (l : ℕ). Lawful m ask (place_of ask x) l rest) n.loss tr.lawful));
+      comes_to = ap (λ o. total_from k m (after_way k m n.before.charge n.by.step.mark o) rest) n.goes.opens ∙ ap (λ c. total_from k m c rest) (sym n.charge) ∙ tr.comes_to;
       avoids = λ y q e h. (
-        (λ a b. let same : r.from ≡ y = one_cell ask r.from y a b in
-            let s : n.before ≡ q = some_same (sym n.row ∙ ap (slice_get rows) same ∙ e) in
-            let u : n.before.steps ≡ q.steps = ap (λ (z : Cell C). z.steps) s in
+        (λ a b. let same : n.by.from ≡ y = one_cell ask n.by.from y a b in
+            let s : n.before ≡ q = some_same (sym (ap reached_row n.row) ∙ ap (reached_in rows) same ∙ e) in
+            let u : n.before.steps ≡ q.steps = ap (λ (z : Reached C). z.steps) s in
             omega arith),
         avoided y q e (let s = n.steps in omega arith),
       );
-      once = (avoided r.from n.before n.row (let s = n.steps in omega arith), rw (there, lost) tr.once);
+      once = (avoided n.by.from n.before (ap reached_row n.row) (let s = n.steps in omega arith), rw (there, lost) tr.once);
     }
 
   -- at the start's cell the trail is a whole run
-  pub trail_whole : (x : ℕ) (r : Cell C) (rest : List Step) (sum : C) → First k ask x r → Trail k m ask rows x r rest sum → Whole k m ask rest sum
+  pub trail_whole : (x : ℕ) (r : Reached C) (rest : List Step) (sum : C) → First k ask x r → Trail k m ask rows x r rest sum → Whole k m ask rest sum
   trail_whole x r rest sum f tr = record {
     lawful = subst (λ (p : ℕ). Lawful m ask p 0 rest) f.place (subst (λ (l : ℕ). Lawful m ask (place_of ask x) l rest) f.loss tr.lawful);
     comes_to = sym tr.comes_to ∙ ap (λ c. total_from k m c rest) f.charge;
     once = subst (λ (p : ℕ). NoneTwice m p 0 rest) f.place (subst (λ (l : ℕ). NoneTwice m (place_of ask x) l rest) f.loss tr.once);
   }
 
-  pub not_first : (x : ℕ) (r : Cell C) → Linked k m ask rows x r → 0 < r.steps → Next k m ask rows x r
+  pub not_first : (x : ℕ) (r : Reached C) → Linked k m ask rows x r → 0 < r.steps → Next k m ask rows x r
   not_first x r l h = elim l [ inl f ↦ absurd (let s = f.steps in omega arith) | inr n ↦ n ]
 
-  pub is_first : (x : ℕ) (r : Cell C) → Linked k m ask rows x r → r.steps ≡ 0 → First k ask x r
+  pub is_first : (x : ℕ) (r : Reached C) → Linked k m ask rows x r → r.steps ≡ 0 → First k ask x r
   is_first x r l h = elim l [ inl f ↦ f | inr n ↦ absurd (let s = n.steps in omega arith) ]
 
 -- writing a list from its last place to its first

@@ -1,34 +1,69 @@
-// A cell is a place together with a loss: to stand there, having lost that much since the last repeater.
+ghost use Rattle.std.specs.Prelude.{◌≡◌};
+ghost use Rattle.search.specs.Columns.{blank_row, reached_as};
+
+use site::run::Step;
+
+// The last step over which a cell was reached, and the cell that it was taken from.
 #[derive(Clone, Copy)]
-pub enum State {
-    // never reached
-    Unseen,
-    // reached, and in the queue
-    Waiting,
-    // taken from the queue
-    Settled,
+pub struct Link {
+    pub from: usize,
+    pub step: Step,
 }
 
-// What the search knows of a cell: the lowest charge found for it, its state, and how it was reached with that charge:
-// from which cell, over which way, with a mark or without, and in how many steps from the start.
+// How a cell was reached: with the lowest charge found for it, over which link (the start's cell has none), and in how
+// many steps from the start.
 #[derive(Clone, Copy)]
-pub struct Cell<C> {
+pub struct Reached<C> {
     pub charge: C,
-    pub state: State,
-    pub from: usize,
-    pub way: usize,
-    pub mark: bool,
+    pub link: Option<Link>,
     pub steps: usize,
 }
 
+// What the search knows of a cell, which is a place together with a loss: to stand there, having lost that much since the
+// last repeater.
+#[derive(Clone, Copy)]
+pub enum Cell<C> {
+    // never reached
+    Unseen,
+    // reached, and in the queue
+    Waiting(Reached<C>),
+    // taken from the queue
+    Settled(Reached<C>),
+}
+
 // A row of working memory serves three numbers at once. Of the cell with the row's number it holds what is known. Of the
-// place with that number it holds `hint`, a cell of the place that was settled lately, and `head`, one more than the
-// largest way that leaves the place (0 where none does). Of the way with that number it holds `next`, one more than the
-// next smaller way that leaves the same place.
+// place with that number it holds `hint`, a cell of the place that was settled lately, and `head`, the largest way that
+// leaves the place. Of the way with that number it holds `next`, the next smaller way that leaves the same place.
 #[derive(Clone, Copy)]
 pub struct Row<C> {
     pub cell: Cell<C>,
-    pub hint: usize,
-    pub head: usize,
-    pub next: usize,
+    pub hint: Option<usize>,
+    pub head: Option<usize>,
+    pub next: Option<usize>,
+}
+
+impl<C: Copy> Cell<C> {
+    // How the cell was reached, if it was.
+    pub fn reached(self) -> Option<Reached<C>>
+        ensures { result ≡ reached_as self }
+    {
+        match self {
+            Cell::Unseen => None,
+            Cell::Waiting(reached) | Cell::Settled(reached) => Some(reached),
+        }
+    }
+}
+
+impl<C> Row<C> {
+    // A row that tells nothing: no cell was reached, and no way is in the index.
+    pub fn blank() -> Row<C>
+        ensures { result ≡ blank_row }
+    {
+        Row {
+            cell: Cell::Unseen,
+            hint: None,
+            head: None,
+            next: None,
+        }
+    }
 }

@@ -6,13 +6,12 @@ use lib.ListN.{length-map}
 use Rattle.site.specs.Whole.{kind_of}
 use Rattle.site.specs.Runs.{loss_after}
 use Rattle.search.specs.Cells.{loss_of}
-use Rattle.search.specs.declared.cell.State.TheVariants.{Waiting}
 use Rattle.search.specs.Search.{Laws, Covered}
 use Rattle.search.specs.Rows.{Next, done_in}
-use Rattle.search.specs.declared.cell.Cell.{Cell}
+use Rattle.search.specs.declared.cell.Reached.{Reached}
 use Rattle.search.specs.Columns.{cells_of}
 use Rattle.search.proofs.Covers.{step_rises}
-use Rattle.search.proofs.Turns.{offer_turn, offer_count, offer_covered_at, offer_covered_on, count_most, steps_few}
+use Rattle.search.proofs.Turns.{offer_turn, offer_count, offer_covered_at, offer_covered_on, count_most}
 use Rattle.search.proofs.Trails.{cell_place, cell_loss, after_low}
 use Rattle.planner.proofs.expand.arrive.Given as given
 use Rattle.planner.proofs.expand.arrive.Goals as goal
@@ -35,7 +34,7 @@ cell_of-target-requires g c =
 
 pub overflow_add-here : goal.overflow_add-here
 overflow_add-here g c =
-    let f = steps_few _ _ _ _ _ _ _ c.requires.turn in
+    let f = c.requires.turn.books.fewer _ _ c.requires.turn.row in
     let n = count_most ((cells_of c.args.cells.now)) in
     let size = length-map c.args.cells.now (λ r. r.cell) in
     omega (arith, c.requires.room.fits)
@@ -56,7 +55,6 @@ offer-requires g c =
       room = omega (arith, r.queue_suffices);
       ordered = c.requires.ordered;
       agree = c.requires.turn.books.agree;
-      waiting = refl;
       low = λ e q. laws.transitive e c.args.here.charge _ (c.requires.turn.expanding.below c.cell_of-target.result e q)
           (subst (λ z. g.S.Charge.Charge.within c.args.here.charge z ≡ true) (sym c.charge_after-charge.ensures) (step_rises (kind_of g.S.Charge.Charge) laws m c.args.here.charge c.args.step.mark (Some c.args.w)));
     }
@@ -73,7 +71,7 @@ returns g c =
     let waits = g.Q.PriorityQueue.waits c.args.queue.now in
     let waits' = g.Q.PriorityQueue.waits c.offer.new.queue in
     let at = c.cell_of-target.result in
-    let new : Cell g.row.S-Charge.Denot = record { charge = c.charge_after-charge.result; state = Waiting; from = c.args.at; way = c.args.step.way; mark = c.args.step.mark; steps = c.args.here.steps + 1 } in
+    let new : Reached g.row.S-Charge.Denot = record { charge = c.charge_after-charge.result; link = Some (record { from = c.args.at; step = c.args.step }); steps = c.args.here.steps + 1 } in
     let lost : c.loss_after-loss.result ≡ loss_after c.args.step.mark (loss_of c.args.request c.args.at + c.args.w.loss) = c.loss_after-loss.ensures ∙ ap (λ (z : ℕ). loss_after c.args.step.mark (z + c.args.w.loss)) c.loss_of.ensures.same in
     let low = after_low c.args.request c.args.step.mark _ _ c.requires.goes.arrives lost in
     let h : c.loss_after-loss.result < c.args.request.bound + 1 = omega (arith, low) in
@@ -83,9 +81,10 @@ returns g c =
     let place = cell_place c.args.request c.args.w.to _ at low c.cell_of-target.ensures in
     let loss = cell_loss c.args.request c.args.w.to _ at low c.cell_of-target.ensures ∙ lost in
     let next : Next k m c.args.request rows at new = record {
+      by = record { from = c.args.at; step = c.args.step };
+      link = refl;
       before = c.args.here;
       row = turn.row;
-      settled = turn.settled;
       over = c.args.w;
       goes = c.requires.goes;
       place = place;
@@ -99,9 +98,9 @@ returns g c =
       ordered = c.offer.ensures.ordered;
       many = c.offer.ensures.many;
       index = c.offer.ensures.index;
-      count = offer_count k laws m c.args.request rows rows' waits waits' at new inside refl o;
-      turn = offer_turn k laws m c.args.request rows rows' waits waits' at new inside refl o c.args.at c.args.here turn up next (steps_few _ _ _ _ _ _ _ turn);
-      keeps = λ p l sum h. offer_covered_on k laws m c.args.request rows rows' waits waits' at new inside refl o p l sum h;
+      count = offer_count k laws m c.args.request rows rows' waits waits' at new inside o;
+      turn = offer_turn k laws m c.args.request rows rows' waits waits' at new inside o c.args.at c.args.here turn up next (let f = turn.books.fewer _ _ turn.row in omega arith);
+      keeps = λ p l sum h. offer_covered_on k laws m c.args.request rows rows' waits waits' at new inside o p l sum h;
       covered = subst (λ z. Covered k c.args.request (done_in rows') waits' c.args.w.to (loss_after c.args.step.mark (loss_of c.args.request c.args.at + c.args.w.loss)) z) c.charge_after-charge.ensures
-          (offer_covered_at k laws m c.args.request rows rows' waits waits' at new inside refl o c.args.w.to _ place loss);
+          (offer_covered_at k laws m c.args.request rows rows' waits waits' at new inside o c.args.w.to _ place loss);
     }

@@ -1,12 +1,13 @@
 -- The first loop has offered the ways from the index's limit up to n; the second all ways from the walk's place upwards, and the
 -- way where it stands leaves the place. The walk falls.
-use Rattle.std.proofs.Common.{◌≡◌, ℕ, ◌-◌, ◌<◌, ◌≤◌}
+use Rattle.std.proofs.Common.{◌≡◌, ℕ, ◌<◌, ◌≤◌, Some}
 use Rattle.site.specs.Whole.{kind_of}
 use Rattle.search.specs.Cells.{place_of}
 use Rattle.search.specs.Search.{Offered}
 use Rattle.search.specs.Rows.{Turn, settled_count, done_in}
 use Rattle.search.specs.Index.{Leaves}
 use Rattle.search.specs.Columns.{cells_of, SameIndex}
+use Rattle.search.proofs.Walks.{left_of}
 use Rattle.planner.proofs.expand.expand.Given as goal
 
 abbrev pub invariant-loop-n : goal.invariant-loop-n
@@ -25,9 +26,9 @@ invariant-loop-after g l =
     × SameIndex l.initial.cells l.cells
     × (settled_count (cells_of l.cells) ≡ settled_count (cells_of l.initial.cells))
     × Turn (kind_of g.S.Charge.Charge) (g.S.Site.meaning l.site) l.request (cells_of l.cells) (g.Q.PriorityQueue.waits l.queue) l.at l.here
-    × ((i : ℕ) → l.after ≤ i → i < l.ways → Offered (kind_of g.S.Charge.Charge) (g.S.Site.meaning l.site) l.request (done_in (cells_of l.cells)) (g.Q.PriorityQueue.waits l.queue) l.at l.here.charge i)
-    × (l.after ≤ l.limit)
-    × (0 < l.after → Leaves (g.S.Site.meaning l.site) (place_of l.request l.at) (l.after - 1))
+    × ((i : ℕ) → left_of l.after ≤ i → i < l.ways → Offered (kind_of g.S.Charge.Charge) (g.S.Site.meaning l.site) l.request (done_in (cells_of l.cells)) (g.Q.PriorityQueue.waits l.queue) l.at l.here.charge i)
+    × (left_of l.after ≤ l.limit)
+    × ((i : ℕ) → l.after ≡ Some i → Leaves (g.S.Site.meaning l.site) (place_of l.request l.at) i)
 
 abbrev pub decreases-loop-after : goal.decreases-loop-after
-decreases-loop-after g l = l.after
+decreases-loop-after g l = left_of l.after

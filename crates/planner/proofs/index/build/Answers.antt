@@ -12,8 +12,8 @@ pub returns : goal.returns
 returns g c =
     let m = g.S.Site.meaning c.args.site.now in
     let rows = c.loop-n.cells in
-    let all : c.loop-n.n ≡ c.smaller-limit.result = omega arith in
-    let limit : c.loop-n.n ≡ min m.ways (length c.args.cells.now) = all ∙ c.smaller-limit.ensures ∙ ap (λ (z : ℕ). min z (length c.args.cells.now)) c.ways.ensures in
+    let all : c.loop-n.n ≡ c.min-limit.result = omega arith in
+    let limit : c.loop-n.n ≡ min m.ways (length c.args.cells.now) = all ∙ c.min-limit.ensures ∙ ap (λ (z : ℕ). min z (length c.args.cells.now)) c.ways.ensures in
     record {
       cells = c.loop-n.invariant.0;
       indexed = subst (λ (z : ℕ). Indexed m (heads_of rows) (nexts_of rows) z) limit c.loop-n.invariant.1;

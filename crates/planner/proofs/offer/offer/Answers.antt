@@ -1,11 +1,10 @@
 -- An offer is written where it improves the cell, and the queue has room for it; else the cell is held with no more already.
-use Rattle.std.proofs.Common.{◌<◌, length, sym, refl, subst, arith}
-use Rattle.search.specs.Rows.{Offering}
+use Rattle.std.proofs.Common.{◌<◌, length, sym, arith}
 use lib.ListN.{length-map}
 use Rattle.site.specs.Whole.{kind_of}
 use Rattle.search.specs.Search.{Laws}
 use Rattle.search.specs.Columns.{cells_of}
-use Rattle.search.proofs.Tables.{offered_over, offered_none}
+use Rattle.search.proofs.Tables.{offered_over, offered_none, nth_column}
 use Rattle.planner.proofs.offer.offer.Given as given
 use Rattle.planner.proofs.offer.offer.Goals as goal
 
@@ -14,28 +13,19 @@ laws_of g =
     let met = g.met.C.Charge in
     record { total = met.total; transitive = met.transitive; monotone = met.monotone; rising = met.rising }
 
-pub returns-then-better : goal.returns-then-better
-returns-then-better g c =
-    let laws = laws_of g in
-    let size = length-map c.args.cells.now (λ r. r.cell) in
-    let inside : c.args.at < length (cells_of c.args.cells.now) = omega (arith, c.requires.inside) in
-    record {
-      ordered = c.enter.ensures.ordered;
-      many = c.enter.ensures.many;
-      index = c.set_row.ensures.index;
-      offered = subst (λ rs. Offering (kind_of g.C.Charge) (cells_of c.args.cells.now) rs (g.Q.PriorityQueue.waits c.args.queue.now) (g.Q.PriorityQueue.waits c.enter.new.queue) c.args.at c.args.new) (sym c.set_row.ensures.cells) (offered_over _ laws ((cells_of c.args.cells.now)) _ _ c.args.at c.row_at-old.result c.args.new inside c.row_at-old.ensures c.requires.agree c.requires.waiting (sym c.if-better.ensures)
-          c.enter.ensures.put);
-    }
-
-pub returns-else-better : goal.returns-else-better
-returns-else-better g c =
-    let laws = laws_of g in
+pub returns-then-better-clause-offered : goal.returns-then-better-clause-offered
+returns-then-better-clause-offered g c =
+    let rows = c.args.cells.now in
+    let size = length-map rows (λ r. r.cell) in
+    let inside : c.args.at < length (cells_of rows) = omega (arith, c.requires.inside) in
     let waits = g.Q.PriorityQueue.waits c.args.queue.now in
-    let size = length-map c.args.cells.now (λ r. r.cell) in
-    let inside : c.args.at < length (cells_of c.args.cells.now) = omega (arith, c.requires.inside) in
-    record {
-      ordered = c.requires.ordered;
-      many = refl;
-      index = record { heads = refl; nexts = refl };
-      offered = offered_none _ laws ((cells_of c.args.cells.now)) waits waits c.args.at c.row_at-old.result c.args.new inside c.row_at-old.ensures c.requires.agree c.requires.waiting (sym c.if-better.ensures) c.requires.low;
-    }
+    let waits' = g.Q.PriorityQueue.waits c.wait.new.queue in
+    rw c.wait.ensures.cells (offered_over _ (laws_of g) (cells_of rows) waits waits' c.args.at _ c.args.new inside (nth_column (λ r. r.cell) rows c.args.at c.index-cells-at.result c.requires.inside) c.requires.agree (sym c.if-better.ensures) c.wait.ensures.put)
+
+pub returns-else-better-clause-offered : goal.returns-else-better-clause-offered
+returns-else-better-clause-offered g c =
+    let rows = c.args.cells.now in
+    let waits = g.Q.PriorityQueue.waits c.args.queue.now in
+    let size = length-map rows (λ r. r.cell) in
+    let inside : c.args.at < length (cells_of rows) = omega (arith, c.requires.inside) in
+    offered_none _ (laws_of g) (cells_of rows) waits waits c.args.at _ c.args.new inside (nth_column (λ r. r.cell) rows c.args.at c.index-cells-at.result c.requires.inside) c.requires.agree (sym c.if-better.ensures) c.requires.low

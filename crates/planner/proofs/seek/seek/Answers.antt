@@ -1,12 +1,12 @@
 -- Each turn settles one more row, so the loop ends. A taken cell of the end has the lowest total; where nothing waits no run is
 -- lawful; any other cell is settled and its ways are offered, which keeps the state.
-use Rattle.std.proofs.Common.{ℕ, min, sym, refl, ap, ◌∙◌, arith}
+use Rattle.std.proofs.Common.{ℕ, min, is_some, sym, refl, ap, ◌∙◌, arith}
 use lib.ListN.{length-map}
 use Rattle.site.specs.Whole.{kind_of}
 use Rattle.search.specs.Search.{Laws}
 use Rattle.search.proofs.Covers.{no_run}
 use Rattle.search.proofs.Tables.{indexed_kept, same_index}
-use Rattle.search.proofs.Turns.{taken_inside, taken_short, taken_found, settle_turn, settle_count}
+use Rattle.search.proofs.Turns.{taken_inside, taken_reached, taken_short, taken_found, settle_turn, settle_count}
 use Rattle.planner.proofs.seek.seek.Given as given
 use Rattle.planner.proofs.seek.seek.Goals as goal
 
@@ -28,8 +28,9 @@ returns-then-ends g c =
 pub settle-here-requires : goal.settle-here-requires
 settle-here-requires g c =
     let size = length-map c.loop-at.cells (λ r. r.cell) in
-    let inside = taken_inside _ (laws_of g) _ _ _ _ _ _ _ c.loop-at.invariant.4 c.in-Some.ensures.answer.1 in
-    omega arith
+    let taken = c.in-Some.ensures.answer.1 in
+    let inside = taken_inside _ (laws_of g) _ _ _ _ _ _ _ c.loop-at.invariant.4 taken in
+    record { inside = omega arith; reached = ap is_some (taken_reached _ (laws_of g) _ _ _ _ _ _ _ c.loop-at.invariant.4 taken) }
 
 pub visit-requires : goal.visit-requires
 visit-requires g c =

@@ -1,15 +1,15 @@
 -- After clearing, indexing and one put, the start's cell alone waits, with nothing: the state in which a search begins.
-use Rattle.std.proofs.Common.{ℕ, ◌+◌, ◌*◌, ◌<◌, min, false, length, set, sym, refl, ap, ◌∙◌, subst, arith}
+use Rattle.std.proofs.Common.{◌≡◌, ℕ, ◌+◌, ◌*◌, ◌<◌, min, List, None, length, replicate, set, sym, refl, ap, ◌∙◌, subst, arith}
 use lib.Arith.{digits_lt}
 use lib.ListN.{length-map}
-use Rattle.search.proofs.Tables.{indexed_kept}
+use Rattle.search.proofs.Tables.{indexed_kept, blank_cells, blank_heads}
 use Rattle.site.specs.Whole.{kind_of}
 use Rattle.queue.specs.Waits.{Put}
 use Rattle.search.specs.Search.{Laws}
-use Rattle.search.specs.Rows.{Blank}
 use Rattle.search.specs.declared.cell.Cell.{Cell}
-use Rattle.search.specs.declared.cell.State.TheVariants.{Waiting}
-use Rattle.search.specs.Columns.{cells_of}
+use Rattle.search.specs.declared.cell.Cell.TheVariants.{Waiting}
+use Rattle.search.specs.declared.cell.Reached.{Reached}
+use Rattle.search.specs.Columns.{cells_of, blank_row}
 use Rattle.search.proofs.Trails.{cell_place, cell_loss}
 use Rattle.search.proofs.Turns.{start_books, start_search}
 use Rattle.planner.proofs.start.begin.Given as given
@@ -20,39 +20,48 @@ laws_of g =
     let met = g.met.S.Charge.Charge in
     record { total = met.total; transitive = met.transitive; monotone = met.monotone; rising = met.rising }
 
-pub set_row-requires : goal.set_row-requires
-set_row-requires g c =
-    let m = g.S.Site.meaning c.args.site.now in
-    let h : 0 < c.args.request.bound + 1 = omega arith in
-    let lt : c.args.request.start * (c.args.request.bound + 1) + 0 < m.places * (c.args.request.bound + 1) = digits_lt c.requires.start h in
-    omega (arith, c.cell_of-first.ensures, c.requires.room.rows_suffice, c.clear.auto.cells, c.build.auto.cells)
-
 pub returns : goal.returns
 returns g c =
     let k = kind_of g.S.Charge.Charge in
     let laws = laws_of g in
     let m = g.S.Site.meaning c.args.site.now in
     let ask = c.args.request in
+    let n = length c.args.cells.now in
     let h : 0 < ask.bound + 1 = omega arith in
     let lt : ask.start * (ask.bound + 1) + 0 < m.places * (ask.bound + 1) = digits_lt c.requires.start h in
-    let rows = (cells_of c.clear.new.cells) in
-    let rows' = (cells_of c.set_row.new.cells) in
+    let rows : List (Cell g.row.S-Charge.Denot) = cells_of (replicate n blank_row) in
+    let rows' = cells_of c.wait.new.cells in
     let at = c.cell_of-first.result in
     let empty = g.Q.PriorityQueue.waits c.clear-2.new.self in
-    let waits = g.Q.PriorityQueue.waits c.enter.new.queue in
-    let new : Cell g.row.S-Charge.Denot = record { charge = c.nothing.result; state = Waiting; from = 0; way = 0; mark = false; steps = 0 } in
-    let size = length-map c.clear.new.cells (λ r. r.cell) in
-    let inside : at < length rows = omega (arith, c.cell_of-first.ensures, c.requires.room.rows_suffice, c.clear.auto.cells, c.build.auto.cells) in
-    let put = subst (λ z. Put empty waits at z) c.nothing-2.ensures c.enter.ensures.put in
+    let waits = g.Q.PriorityQueue.waits c.wait.new.queue in
+    let new : Reached g.row.S-Charge.Denot = record { charge = c.nothing.result; link = None; steps = 0 } in
+    let was : cells_of c.build.new.cells ≡ rows = c.build.ensures.cells ∙ ap cells_of c.clear.ensures in
+    let size : length rows ≡ n = length-map (replicate n blank_row) (λ r. r.cell) ∙ sym (ap length c.clear.ensures) ∙ c.clear.auto.cells in
+    let inside : at < length rows = omega (arith, c.cell_of-first.ensures, c.requires.room.rows_suffice) in
+    let written = c.wait.ensures.cells ∙ ap (λ rs. set rs at (Waiting new)) was in
+    let put = subst (λ z. Put empty waits at z) c.nothing.ensures c.wait.ensures.put in
     let place = cell_place ask ask.start 0 at (omega arith) c.cell_of-first.ensures in
     let loss = cell_loss ask ask.start 0 at (omega arith) c.cell_of-first.ensures in
-    let blank = subst (λ (n : ℕ). Blank rows n) (sym (size ∙ c.clear.auto.cells)) c.clear.ensures.blank in
     record {
-      ordered = c.enter.ensures.ordered;
-      many = c.enter.ensures.many ∙ c.clear-2.ensures.many;
-      indexed = indexed_kept m _ _ _ _ (ap (λ (z : ℕ). min m.ways z) c.clear.auto.cells) c.set_row.ensures.index c.build.ensures.indexed;
-      searching = start_search k laws m ask rows rows' empty waits at new inside blank (c.set_row.ensures.cells ∙ ap (λ rs. set rs at new) c.build.ensures.cells) c.clear-2.ensures.empty put refl c.nothing.ensures refl place loss;
-      books = start_books k laws m ask rows rows' empty waits at new inside blank (c.set_row.ensures.cells ∙ ap (λ rs. set rs at new) c.build.ensures.cells) c.clear-2.ensures.empty put refl c.nothing.ensures refl place loss;
+      ordered = c.wait.ensures.ordered;
+      many = c.wait.ensures.many ∙ c.clear-2.ensures.many;
+      indexed = indexed_kept m _ _ _ _ (ap (λ (z : ℕ). min m.ways z) c.clear.auto.cells) c.wait.ensures.index c.build.ensures.indexed;
+      searching = start_search k laws m ask rows rows' empty waits at new inside (blank_cells n) written c.clear-2.ensures.empty put c.nothing.ensures refl refl place loss;
+      books = start_books k laws m ask rows rows' empty waits at new inside (blank_cells n) written c.clear-2.ensures.empty put c.nothing.ensures refl refl place loss;
+    }
+
+pub build-requires-clause-empty : goal.build-requires-clause-empty
+build-requires-clause-empty g c = λ p. rw c.clear.ensures (blank_heads g.row.S-Charge.Denot (length c.args.cells.now) p)
+
+pub wait-requires : goal.wait-requires
+wait-requires g c =
+    let m = g.S.Site.meaning c.args.site.now in
+    let h : 0 < c.args.request.bound + 1 = omega arith in
+    let lt : c.args.request.start * (c.args.request.bound + 1) + 0 < m.places * (c.args.request.bound + 1) = digits_lt c.requires.start h in
+    record {
+      inside = omega (arith, c.cell_of-first.ensures, c.requires.room.rows_suffice, c.clear.auto.cells, c.build.auto.cells);
+      room = omega (arith, c.cell_of-first.ensures, c.requires.room.queue_suffices, c.clear-2.ensures.many);
+      ordered = c.clear-2.ensures.ordered;
     }
 
 pub cell_of-first-requires : goal.cell_of-first-requires
@@ -60,10 +69,3 @@ cell_of-first-requires g c =
     let b = g.S.Site.bounded c.args.site.now in
     let f = b.few_places in
     record { bound = c.requires.room.bound; place = omega (arith, c.requires.start); loss = omega arith }
-
-pub enter-requires : goal.enter-requires
-enter-requires g c =
-    let m = g.S.Site.meaning c.args.site.now in
-    let h : 0 < c.args.request.bound + 1 = omega arith in
-    let lt : c.args.request.start * (c.args.request.bound + 1) + 0 < m.places * (c.args.request.bound + 1) = digits_lt c.requires.start h in
-    record { room = omega (arith, c.cell_of-first.ensures, c.requires.room.queue_suffices, c.clear-2.ensures.many); ordered = c.clear-2.ensures.ordered }

@@ -1,8 +1,7 @@
--- The rows below i are blank.
-use Rattle.std.proofs.Common.{◌≡◌, ℕ, ◌<◌, get_or}
-use Rattle.search.specs.Rows.{Blank}
-use Rattle.search.specs.Columns.{cells_of, heads_of}
+-- The rows before this one are blank, and the others as they were.
+use Rattle.std.proofs.Common.{◌≡◌, ◌++◌, drop, replicate}
+use Rattle.search.specs.Columns.{blank_row}
 use Rattle.planner.proofs.start.clear.Given as goal
 
-abbrev pub invariant-loop-i : goal.invariant-loop-i
-invariant-loop-i g l = Blank (cells_of l.cells) l.i × ((p : ℕ) → p < l.i → get_or (heads_of l.cells) p 0 ≡ 0)
+abbrev pub invariant-loop-row : goal.invariant-loop-row
+invariant-loop-row g l = l.cells ≡ replicate l.row-index blank_row ++ drop l.row-index l.initial.cells
