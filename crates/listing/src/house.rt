@@ -15,8 +15,7 @@ pub struct Question {
 // A blank, a free repeater, or one at a price.
 fn repeater(random: &mut Random) -> Option<u32> {
     match random.below(6) {
-        0 => None,
-        1 => None,
+        0 | 1 => None,
         2 => Some(0),
         _ => Some((random.below(9) * 100) as u32),
     }

@@ -1,6 +1,8 @@
 // All lawful runs of a small house that never leave a place twice with the same loss, by plain recursion.
 use crate::house::Question;
 use std::alloc::{AllocError, Global};
+use std::collections::BTreeSet;
+use survey::entry::WayEntry;
 use survey::sealed::Sealed;
 
 // How many runs there are, and the least figures of them.
@@ -21,10 +23,7 @@ struct Here {
 }
 
 fn lower(old: Option<u64>, new: u64) -> Option<u64> {
-    match old {
-        Some(best) => Some(if new < best { new } else { best }),
-        None => Some(new),
-    }
+    Some(old.map_or(new, |best| best.min(new)))
 }
 
 // The price of a repeater where one may be marked.
@@ -32,94 +31,65 @@ fn mark_price(survey: &Sealed, asked: &Question, place: usize) -> Option<u64> {
     if place == asked.request.start || place == asked.request.end {
         return None;
     }
-    match survey.place(place)?.repeater {
-        Some(price) => Some(price as u64),
-        None => None,
-    }
+    let price = survey.place(place)?.repeater?;
+    Some(price as u64)
 }
 
 // Where a way leads from where the run stands, without a mark.
-fn over(survey: &Sealed, asked: &Question, here: Here, number: usize) -> Option<Here> {
-    if number == asked.closed[0] || number == asked.closed[1] {
-        return None;
-    }
-    let way = survey.way(number)?;
-    let per_hundred = if way.letter == 'U' {
-        220
-    } else if way.letter == 'S' {
-        90
-    } else {
-        4
+fn over(asked: &Question, here: Here, number: usize, way: &WayEntry) -> Option<Here> {
+    let per_hundred = match way.letter {
+        'U' => 220,
+        'S' => 90,
+        _ => 4,
     };
     let loss = here
         .loss
         .saturating_add((way.metres as usize * per_hundred + 99) / 100);
-    if way.from as usize != here.place || loss > asked.request.bound {
+    let goes = way.from as usize == here.place && loss <= asked.request.bound;
+    if !goes || asked.closed.contains(&number) {
         return None;
     }
-    let grade = if here.grade < way.grade as u64 {
-        way.grade as u64
-    } else {
-        here.grade
-    };
     Some(Here {
         place: way.to as usize,
         loss,
         cents: here.cents.saturating_add(way.price as u64),
-        grade,
+        grade: here.grade.max(way.grade as u64),
     })
 }
 
-fn is_left(left: &Vec<bool>, at: usize) -> bool {
-    match left.get(at) {
-        Some(seen) => *seen,
-        None => true,
-    }
-}
-
-fn mark_left(left: &mut Vec<bool>, at: usize, seen: bool) {
-    if at < left.len() {
-        left[at] = seen;
-    }
-}
-
-// Lists the runs that go on from here, in at most `depth` steps.
+// Lists the runs that go on from here, in at most `depth` steps; `left` has the places, each with its loss, that the run has
+// left so far.
 fn walk(
     survey: &Sealed,
     asked: &Question,
     here: Here,
     depth: usize,
-    left: &mut Vec<bool>,
+    left: &mut BTreeSet<(usize, usize)>,
     found: &mut Found,
-) {
+) -> Result<(), AllocError> {
     if here.place == asked.request.end {
         found.runs = found.runs.saturating_add(1);
         found.money = lower(found.money, here.cents);
         found.grade = lower(found.grade, here.grade);
     }
-    let at = here
-        .place
-        .saturating_mul(asked.request.bound.saturating_add(1))
-        .saturating_add(here.loss);
-    if depth == 0 || is_left(left, at) {
-        return;
+    if depth == 0 || !left.insert((here.place, here.loss))? {
+        return Ok(());
     }
-    mark_left(left, at, true);
-    for number in 0..survey.ways() {
-        if let Some(there) = over(survey, asked, here, number) {
-            walk(survey, asked, there, depth - 1, left, found);
+    for (number, way) in survey.all_ways().iter().enumerate() {
+        if let Some(there) = over(asked, here, number, way) {
+            walk(survey, asked, there, depth - 1, left, found)?;
             if let Some(price) = mark_price(survey, asked, there.place) {
                 let cleared = Here {
-                    place: there.place,
                     loss: 0,
                     cents: there.cents.saturating_add(price),
-                    grade: there.grade,
+                    ..there
                 };
-                walk(survey, asked, cleared, depth - 1, left, found);
+                walk(survey, asked, cleared, depth - 1, left, found)?;
             }
         }
     }
-    mark_left(left, at, false);
+    left.remove(&(here.place, here.loss));
+    Ok(())
 }
 
 // Lists the runs of a question. Where the start is no place there is none.
@@ -130,7 +100,7 @@ pub fn list_runs(heap: Global, survey: &Sealed, asked: &Question) -> Result<Foun
         grade: None,
     };
     let cells = survey.places() * 1001;
-    let mut left = vec![in heap; false; cells]?;
+    let mut left = BTreeSet::new(heap);
     if asked.request.start < survey.places() {
         let here = Here {
             place: asked.request.start,
@@ -138,7 +108,7 @@ pub fn list_runs(heap: Global, survey: &Sealed, asked: &Question) -> Result<Foun
             cents: 0,
             grade: 0,
         };
-        walk(survey, asked, here, cells, &mut left, &mut found);
+        walk(survey, asked, here, cells, &mut left, &mut found)?;
     }
     Ok(found)
 }
