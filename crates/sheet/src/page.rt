@@ -10,42 +10,33 @@ ghost use Rattle.sheet.specs.Sheet.{sheet_text};
 ghost use Rattle.sheet.specs.Page.{PageDrawn, PageRefused};
 
 use crate::lines::{run_line, total_line};
-use crate::steps::{put_steps, steps_length};
+use crate::steps::Drawn;
 use charge::money::Money;
 use pricing::total_of;
 use refusal::Refusal;
 use search::check::check_request;
 use site::run::{Request, Step};
-use site::site::Site;
 use survey::sealed::Sealed;
 use views::money::MoneyView;
 
 // The sheet of a lawful run, whose total is known, at the front of the bytes.
-fn put_sheet(
-    survey: &Sealed,
-    request: &Request,
-    steps: &[Step],
-    sum: Money,
-    out: &mut [u8],
-) -> Result<usize, Refusal>
-    requires lawful { Run (money_site (sealed_contents survey.now)) request.now steps.now }
-    requires bound { request.now.bound ≤ 1000 }
-    requires sum { sum ≡ total moneys.money (money_site (sealed_contents survey.now)) steps.now }
-    ensures answer { result ≡ placed out.old 0 (sheet_text (money_site (sealed_contents survey.now)) request.now steps.now) }
-    ensures after { out.new ≡ over out.old 0 (sheet_text (money_site (sealed_contents survey.now)) request.now steps.now) }
+fn put_sheet(drawn: &Drawn<'_, MoneyView<'_>>, sum: Money, out: &mut [u8]) -> Result<usize, Refusal>
+    requires lawful { Run (money_site (sealed_contents drawn.now.site.now.survey.now)) drawn.now.request drawn.now.steps.now }
+    requires sum { sum ≡ total moneys.money (money_site (sealed_contents drawn.now.site.now.survey.now)) drawn.now.steps.now }
+    ensures answer { result ≡ placed out.old 0 (sheet_text (money_site (sealed_contents drawn.now.site.now.survey.now)) drawn.now.request drawn.now.steps.now) }
+    ensures after { out.new ≡ over out.old 0 (sheet_text (money_site (sealed_contents drawn.now.site.now.survey.now)) drawn.now.request drawn.now.steps.now) }
 {
-    let view = MoneyView::over(survey);
-    let first = run_line(*request);
+    let first = run_line(drawn.request);
     let last = total_line(sum);
     let ends = first.len() + last.len();
     if out.len() < ends {
         return Err(Refusal::NoRoom);
     }
-    let Some(_) = steps_length(&view, request, steps, out.len() - ends) else {
+    let Some(_) = drawn.length(out.len() - ends) else {
         return Err(Refusal::NoRoom);
     };
     let after_first = first.put_into(out, 0)?;
-    let after_steps = put_steps(&view, request, steps, out, after_first)?;
+    let after_steps = drawn.put(out, after_first)?;
     last.put_into(out, after_steps)
 }
 
@@ -61,8 +52,17 @@ pub fn sheet(
     ensures { MatchResult result (λ n. PageDrawn (money_site (sealed_contents survey.now)) request steps.now out.old out.new n) (λ e. PageRefused (money_site (sealed_contents survey.now)) request steps.now out.old e × (out.new ≡ out.old)) }
 {
     check_request(survey.places(), request)?;
-    match total_of(&MoneyView::over(survey), request, steps) {
-        Some(sum) => put_sheet(survey, &request, steps, sum, out),
+    let site = &MoneyView::over(survey);
+    match total_of(site, request, steps) {
+        Some(sum) => put_sheet(
+            &Drawn {
+                site,
+                request,
+                steps,
+            },
+            sum,
+            out,
+        ),
         None => Err(Refusal::NotLawful),
     }
 }

@@ -41,50 +41,49 @@ fn arrive<S: Site>(site: &S, loss: usize, step: Step) -> Arrival
     }
 }
 
-// How long the lines of all steps are, or none where they are longer than `most`.
-pub(crate) fn steps_length<S: Site>(
-    site: &S,
-    request: &Request,
-    steps: &[Step],
-    most: usize,
-) -> Option<usize>
-    requires lawful { Run (S.Site.meaning site.now) request.now steps.now }
-    requires bound { request.now.bound ≤ 1000 }
-    ensures { MatchOption result (most < length (step_lines (S.Site.meaning site.now) 0 steps.now)) (λ n. (n ≡ length (step_lines (S.Site.meaning site.now) 0 steps.now)) × (n ≤ most)) }
-{
-    let mut loss = 0;
-    let mut length = 0;
-    for step in steps {
-        let arrival = arrive(site, loss, *step);
-        if arrival.line.len() > most - length {
-            return None;
-        }
-        length += arrival.line.len();
-        loss = arrival.loss;
-    }
-    Some(length)
+// Steps that were drawn over a site for a request, whose bound can be asked for. (That they are lawful stands as a premise of
+// the calls: a ghost field has to be a fact with one proof at most, which is not shown of a run.)
+#[derive(Drop)]
+pub(crate) struct Drawn<'a, S: Site> {
+    pub(crate) site: &'a S,
+    pub(crate) request: Request,
+    pub(crate) steps: &'a [Step],
+    ghost bound: { request.bound ≤ 1000 },
 }
 
-// The lines of all steps, into the bytes from a place on.
-pub(crate) fn put_steps<S: Site>(
-    site: &S,
-    request: &Request,
-    steps: &[Step],
-    out: &mut [u8],
-    start: usize,
-) -> Result<usize, Refusal>
-    requires lawful { Run (S.Site.meaning site.now) request.now steps.now }
-    requires bound { request.now.bound ≤ 1000 }
-    requires room { start + length (step_lines (S.Site.meaning site.now) 0 steps.now) ≤ length out.old }
-    ensures answer { result ≡ Ok (start + length (step_lines (S.Site.meaning site.now) 0 steps.now)) }
-    ensures after { out.new ≡ over out.old start (step_lines (S.Site.meaning site.now) 0 steps.now) }
-{
-    let mut loss = 0;
-    let mut at = start;
-    for step in steps {
-        let arrival = arrive(site, loss, *step);
-        at = arrival.line.put_into(out, at)?;
-        loss = arrival.loss;
+impl<S: Site> Drawn<'_, S> {
+    // How long the lines of all steps are, or none where they are longer than `most`.
+    pub(crate) fn length(&self, most: usize) -> Option<usize>
+        requires { Run (S.Site.meaning self.now.site.now) self.now.request self.now.steps.now }
+        ensures { MatchOption result (most < length (step_lines (S.Site.meaning self.now.site.now) 0 self.now.steps.now)) (λ n. (n ≡ length (step_lines (S.Site.meaning self.now.site.now) 0 self.now.steps.now)) × (n ≤ most)) }
+    {
+        let mut loss = 0;
+        let mut length = 0;
+        for step in self.steps {
+            let arrival = arrive(self.site, loss, *step);
+            if arrival.line.len() > most - length {
+                return None;
+            }
+            length += arrival.line.len();
+            loss = arrival.loss;
+        }
+        Some(length)
     }
-    Ok(at)
+
+    // The lines of all steps, into the bytes from a place on.
+    pub(crate) fn put(&self, out: &mut [u8], start: usize) -> Result<usize, Refusal>
+        requires lawful { Run (S.Site.meaning self.now.site.now) self.now.request self.now.steps.now }
+        requires room { start + length (step_lines (S.Site.meaning self.now.site.now) 0 self.now.steps.now) ≤ length out.old }
+        ensures answer { result ≡ Ok (start + length (step_lines (S.Site.meaning self.now.site.now) 0 self.now.steps.now)) }
+        ensures after { out.new ≡ over out.old start (step_lines (S.Site.meaning self.now.site.now) 0 self.now.steps.now) }
+    {
+        let mut loss = 0;
+        let mut at = start;
+        for step in self.steps {
+            let arrival = arrive(self.site, loss, *step);
+            at = arrival.line.put_into(out, at)?;
+            loss = arrival.loss;
+        }
+        Ok(at)
+    }
 }

@@ -15,13 +15,13 @@ same_parts a a' b b' c c' e f g = ap (λ x. x ++ (b ++ c)) e ∙ ap (λ x. a' ++
 pub returns-then-out-ends : goal.returns-then-out-ends
 returns-then-out-ends c =
     let out = c.args.out.now in
-    let steps = step_lines (money_site (sealed_contents c.args.survey.now)) 0 c.args.steps.now in
+    let steps = step_lines (money_site (sealed_contents c.args.drawn.now.site.now.survey.now)) 0 c.args.drawn.now.steps.now in
     let first = text_of c.run_line-first.result in
     let last = text_of c.total_line-last.result in
     let text = same_parts first _ steps steps last _ c.run_line-first.ensures refl (c.total_line-last.ensures ∙ ap total_line c.requires.sum) in
     let long = parts_long first steps last in
     let whole = ap length text in
-    let sheet = sheet_text (money_site (sealed_contents c.args.survey.now)) c.args.request.now c.args.steps.now in
+    let sheet = sheet_text (money_site (sealed_contents c.args.drawn.now.site.now.survey.now)) c.args.drawn.now.request c.args.drawn.now.steps.now in
     let short : length out < 0 + length sheet =
     omega (arith, c.len.ensures, c.len-2.ensures, c.if-out-ends.true) in
     record { answer = sym (placed_not out 0 sheet short); after = sym (over_not out 0 sheet short) }
@@ -29,21 +29,19 @@ returns-then-out-ends c =
 pub returns-in_default : goal.returns-in_default
 returns-in_default c =
     let out = c.args.out.now in
-    let viewed = ap money_site c.over-view.ensures in
-    let steps = step_lines (money_site (sealed_contents c.over-view.result.survey.now)) 0 c.args.steps.now in
+    let steps = step_lines (money_site (sealed_contents c.args.drawn.now.site.now.survey.now)) 0 c.args.drawn.now.steps.now in
     let first = text_of c.run_line-first.result in
     let last = text_of c.total_line-last.result in
-    let text = same_parts first _ steps _ last _ c.run_line-first.ensures (ap (λ m. step_lines m 0 c.args.steps.now) viewed) (c.total_line-last.ensures ∙ ap total_line c.requires.sum) in
+    let text = same_parts first _ steps steps last _ c.run_line-first.ensures refl (c.total_line-last.ensures ∙ ap total_line c.requires.sum) in
     let long = parts_long first steps last in
     let whole = ap length text in
-    let sheet = sheet_text (money_site (sealed_contents c.args.survey.now)) c.args.request.now c.args.steps.now in
+    let sheet = sheet_text (money_site (sealed_contents c.args.drawn.now.site.now.survey.now)) c.args.drawn.now.request c.args.drawn.now.steps.now in
     let short : length out < 0 + length sheet =
     omega (arith, c.len.ensures, c.len-2.ensures, c.if-out-ends.false, c.in_default.ensures) in
     record { answer = sym (placed_not out 0 sheet short); after = sym (over_not out 0 sheet short) }
 
 pub returns-in_err-after_first : goal.returns-in_err-after_first
 returns-in_err-after_first c =
-    let viewed = ap money_site c.over-view.ensures in
     let first = text_of c.run_line-first.result in
     let fits : 0 + length first ≤ length c.args.out.now = omega (arith, c.len.ensures, c.if-out-ends.false) in
     absurd (not_refused c.args.out.now 0 first _ fits c.in_err-after_first.ensures.answer)
@@ -51,17 +49,16 @@ returns-in_err-after_first c =
 pub returns : goal.returns
 returns c =
     let out = c.args.out.now in
-    let viewed = ap money_site c.over-view.ensures in
-    let steps = step_lines (money_site (sealed_contents c.over-view.result.survey.now)) 0 c.args.steps.now in
+    let steps = step_lines (money_site (sealed_contents c.args.drawn.now.site.now.survey.now)) 0 c.args.drawn.now.steps.now in
     let first = text_of c.run_line-first.result in
     let last = text_of c.total_line-last.result in
-    let text = same_parts first _ steps _ last _ c.run_line-first.ensures (ap (λ m. step_lines m 0 c.args.steps.now) viewed) (c.total_line-last.ensures ∙ ap total_line c.requires.sum) in
+    let text = same_parts first _ steps steps last _ c.run_line-first.ensures refl (c.total_line-last.ensures ∙ ap total_line c.requires.sum) in
     let long = parts_long first steps last in
     let measured = c.in-Some.ensures in
     let room : length (first ++ (steps ++ last)) ≤ length out = omega (arith, c.len.ensures, c.len-2.ensures, c.if-out-ends.false, measured.0, measured.1) in
     let told = c.in_ok-after_first.ensures in
     let told-steps = c.in_ok-after_steps.ensures in
-    let laid = three_laid out first steps last room c.in_ok-after_first.after_first c.in_ok-after_steps.after_steps c.put_into.new.out c.put_steps.new.out
+    let laid = three_laid out first steps last room c.in_ok-after_first.after_first c.in_ok-after_steps.after_steps c.put_into.new.out c.put.new.out
     told.answer told.after told-steps.answer told-steps.after in
     record {
       answer = c.put_into-2.ensures.answer ∙ laid.0 ∙ ap (placed out 0) text;
