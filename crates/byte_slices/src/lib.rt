@@ -7,7 +7,8 @@ ghost use Rattle.byte_slices.specs.Lay.{placed, over};
 use refusal::Refusal;
 
 // A piece is laid into the bytes at a place, and the answer is the place behind it. Where it does not fit it is refused,
-// and all bytes stay; where it does, all others stay.
+// and all bytes stay; where it does, all others stay. (Bytes and place travel together, but a cursor would be no plainer: the
+// answer of one call is the place of the next, as in `at = put(out, at, piece)?`.)
 pub fn put(out: &mut [u8], at: usize, piece: &[u8]) -> Result<usize, Refusal>
     ensures answer { result ≡ placed out.old at piece.now }
     ensures after { out.new ≡ over out.old at piece.now }

@@ -70,7 +70,8 @@ fn cut_line(text: &[u8]) -> (&[u8], &[u8])
     }
 }
 
-// The calls of the lines, in their order, none of them tried yet, or the number of the first line that is none.
+// The calls of the lines, in their order, none of them tried yet, or the number of the first line that is none. (A result in a
+// result: the outer one says whether there was memory, the inner one what the text is, and every clause speaks of that.)
 fn read_lines(heap: Global, text: &[u8]) -> Result<Result<Vec<Entry<Money>>, Trouble>, AllocError>
     ensures { IfOk result (λ s. MatchResult s (λ v. TextOf text.now (calls_of v.items) × AllUntried v.items) (λ t. TroubleOf text.now t)) }
 {

@@ -33,7 +33,7 @@ fn check_price(price: u32) -> Result<(), Refusal>
     Ok(())
 }
 
-// A place has a price that passes, or a blank.
+// A place has a price that passes, or a blank. (The two cases of the rule stand as two cases; a combinator would hide them.)
 fn check_place(repeater: Option<u32>) -> Result<(), Refusal>
     ensures { result ≡ place_check repeater }
 {
