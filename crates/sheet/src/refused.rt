@@ -1,4 +1,5 @@
-// The line that says why a call was refused.
+// The line that says why a call was refused. (Two lines, since a fault in a file has a byte place and a refusal has none; what
+// they share is the word and the way in which a line grows.)
 ghost use Rattle.std.specs.Prelude.{◌≡◌};
 ghost use Rattle.byte_slices.specs.Lay.{placed, over};
 ghost use Rattle.sheet.specs.Lines.{text_of};

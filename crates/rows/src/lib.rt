@@ -1,0 +1,108 @@
+// Rows of working memory in vectors, for programs that plan: what a plan is lent comes out of them.
+#![tactic(auto)]
+
+ghost use Rattle.std.specs.Prelude.{◌≡◌, IfOk};
+ghost use Rattle.rows.specs.Fillings.{as_many, counted, blank_filling};
+
+use charge::kind::Charge;
+use search::cell::Row;
+use site::run::Step;
+use slots::slot::Slot;
+use std::alloc::{AllocError, Global};
+
+// How many rows there are of each sort.
+#[derive(Clone, Copy)]
+pub struct Counts {
+    pub cells: usize,
+    pub slots: usize,
+    pub steps: usize,
+}
+
+impl Counts {
+    // As many rows of each sort.
+    pub fn each(many: usize) -> Counts
+        ensures { result ≡ as_many many }
+    {
+        Counts {
+            cells: many,
+            slots: many,
+            steps: many,
+        }
+    }
+}
+
+// What each row holds before a plan uses it.
+#[derive(Clone, Copy)]
+pub struct Filling<C> {
+    pub cell: Row<C>,
+    pub slot: Slot<C>,
+    pub step: Step,
+}
+
+impl<C: Charge> Filling<C> {
+    // Rows that tell nothing.
+    pub fn blank() -> Filling<C>
+        ensures { result ≡ blank_filling C.Charge.free }
+    {
+        Filling {
+            cell: Row::blank(),
+            slot: Slot {
+                charge: C::nothing(),
+                cell: 0,
+                position: 0,
+            },
+            step: Step {
+                way: 0,
+                mark: false,
+            },
+        }
+    }
+}
+
+// Cell rows, queue rows and run rows.
+#[derive(Drop)]
+pub struct OwnedRows<C> {
+    pub cells: Vec<Row<C>>,
+    pub slots: Vec<Slot<C>>,
+    pub run: Vec<Step>,
+}
+
+impl<C: Charge + Clone> OwnedRows<C> {
+    // So many rows of each sort. Each holds the filling, but a plan overwrites whatever they hold, so what is told is how many
+    // there are.
+    pub fn filled(
+        heap: Global,
+        counts: Counts,
+        filling: Filling<C>,
+    ) -> Result<OwnedRows<C>, AllocError>
+        ensures { IfOk result (λ r. counted r ≡ counts) }
+    {
+        let cells = vec![in heap; filling.cell; counts.cells]?;
+        let slots = vec![in heap; filling.slot; counts.slots]?;
+        let run = vec![in heap; filling.step; counts.steps]?;
+        Ok(OwnedRows { cells, slots, run })
+    }
+
+    // As many rows of each sort, which tell nothing.
+    pub fn blank(heap: Global, many: usize) -> Result<OwnedRows<C>, AllocError>
+        ensures { IfOk result (λ r. counted r ≡ as_many many) }
+    {
+        OwnedRows::filled(heap, Counts::each(many), Filling::blank())
+    }
+}
+
+#[cfg(test)]
+mod tests {
+    use super::*;
+    use charge::money::Money;
+    use std::test::Fail;
+
+    #[test]
+    fn there_is_memory(rt: HostRuntime) -> Result<(), Fail> {
+        let rows: OwnedRows<Money> = OwnedRows::blank(rt.alloc(), 144)?;
+        assert_eq!(rt; rows.cells.len(), 144);
+        assert_eq!(rt; rows.slots.len(), 144);
+        assert_eq!(rt; rows.run.len(), 144);
+        Ok(())
+    }
+}
