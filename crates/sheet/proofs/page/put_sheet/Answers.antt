@@ -1,50 +1,16 @@
 -- The first line, the lines of the steps and the last line are laid one behind the other, and there is room for each.
-use Rattle.std.proofs.Common.{◌≡◌, ℕ, ◌+◌, ◌<◌, ◌≤◌, List, ◌++◌, length, sym, refl, ap, ◌∙◌, arith}
+use Rattle.std.proofs.Common.{◌≡◌, ℕ, ◌≤◌, List, ◌++◌, length, refl, ap, ◌∙◌, arith}
 use Rattle.byte_slices.specs.Lay.{placed, over}
-use Rattle.byte_slices.proofs.Laid.{placed_not, over_not, not_refused, parts_long, three_laid}
+use Rattle.byte_slices.proofs.Laid.{parts_long, three_laid}
 use Rattle.survey.specs.Sealing.{sealed_contents}
 use Rattle.views.specs.SurveySite.{money_site}
 use Rattle.sheet.specs.Lines.{text_of}
-use Rattle.sheet.specs.Sheet.{step_lines, total_line, sheet_text}
+use Rattle.sheet.specs.Sheet.{step_lines, total_line}
 use Rattle.sheet.proofs.page.put_sheet.Goals as goal
 
 -- the pieces are those of the sheet
 same_parts : (a a' b b' c c' : List ℕ) → a ≡ a' → b ≡ b' → c ≡ c' → a ++ (b ++ c) ≡ a' ++ (b' ++ c')
 same_parts a a' b b' c c' e f g = ap (λ x. x ++ (b ++ c)) e ∙ ap (λ x. a' ++ (x ++ c)) f ∙ ap (λ x. a' ++ (b' ++ x)) g
-
-pub returns-then-out-ends : goal.returns-then-out-ends
-returns-then-out-ends c =
-    let out = c.args.out.now in
-    let steps = step_lines (money_site (sealed_contents c.args.drawn.now.site.now.survey.now)) 0 c.args.drawn.now.steps.now in
-    let first = text_of c.run_line-first.result in
-    let last = text_of c.total_line-last.result in
-    let text = same_parts first _ steps steps last _ c.run_line-first.ensures refl (c.total_line-last.ensures ∙ ap total_line c.requires.sum) in
-    let long = parts_long first steps last in
-    let whole = ap length text in
-    let sheet = sheet_text (money_site (sealed_contents c.args.drawn.now.site.now.survey.now)) c.args.drawn.now.request c.args.drawn.now.steps.now in
-    let short : length out < 0 + length sheet =
-    omega (arith, c.len.ensures, c.len-2.ensures, c.if-out-ends.true) in
-    record { answer = sym (placed_not out 0 sheet short); after = sym (over_not out 0 sheet short) }
-
-pub returns-in_default : goal.returns-in_default
-returns-in_default c =
-    let out = c.args.out.now in
-    let steps = step_lines (money_site (sealed_contents c.args.drawn.now.site.now.survey.now)) 0 c.args.drawn.now.steps.now in
-    let first = text_of c.run_line-first.result in
-    let last = text_of c.total_line-last.result in
-    let text = same_parts first _ steps steps last _ c.run_line-first.ensures refl (c.total_line-last.ensures ∙ ap total_line c.requires.sum) in
-    let long = parts_long first steps last in
-    let whole = ap length text in
-    let sheet = sheet_text (money_site (sealed_contents c.args.drawn.now.site.now.survey.now)) c.args.drawn.now.request c.args.drawn.now.steps.now in
-    let short : length out < 0 + length sheet =
-    omega (arith, c.len.ensures, c.len-2.ensures, c.if-out-ends.false, c.in_default.ensures) in
-    record { answer = sym (placed_not out 0 sheet short); after = sym (over_not out 0 sheet short) }
-
-pub returns-in_err-after_first : goal.returns-in_err-after_first
-returns-in_err-after_first c =
-    let first = text_of c.run_line-first.result in
-    let fits : 0 + length first ≤ length c.args.out.now = omega (arith, c.len.ensures, c.if-out-ends.false) in
-    absurd (not_refused c.args.out.now 0 first _ fits c.in_err-after_first.ensures.answer)
 
 pub returns : goal.returns
 returns c =

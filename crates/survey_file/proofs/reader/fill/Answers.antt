@@ -3,11 +3,8 @@ use Rattle.std.proofs.Common.{Err, sym, ap, ◌∙◌}
 use Rattle.std.proofs.lemmas.Result.{err_from_is_err_and, IfOk-from_err}
 use Rattle.survey.specs.Contents.{contents}
 use Rattle.survey.specs.Edits.{given}
-use Rattle.survey_file.proofs.Turning.{first, at_end, after_err, after_ok}
+use Rattle.survey_file.proofs.Turning.{at_end, after_err, after_ok}
 use Rattle.survey_file.proofs.reader.fill.Goals as goal
-
-pub loop-s-init : goal.loop-s-init
-loop-s-init c = first c.args.bytes.now (contents c.args.draft.now) c.requires
 
 pub loop-s-preserved : goal.loop-s-preserved
 loop-s-preserved c =

@@ -1,28 +1,13 @@
 -- The head, the places, the ways and the end are laid one behind the other, and there is room for each.
-use Rattle.std.proofs.Common.{◌≤◌, length, vec_len, refl, sym, subst, ap, ◌∙◌}
+use Rattle.std.proofs.Common.{◌≤◌, length, vec_len, sym, subst, ap, ◌∙◌}
 use Rattle.byte_slices.specs.Lay.{placed as laid_at, over}
 use Rattle.survey.specs.Checks.{good_ways}
 use Rattle.survey.specs.Contents.{Contents}
 use Rattle.survey.specs.Sealing.{sealed_contents}
 use Rattle.survey_file.specs.Encode.{file_of}
 use Rattle.survey_file.proofs.ReadsBack.{sealed_reads}
-use Rattle.survey_file.proofs.Writing.{letters_fit, same_contents, front_head, head_not_refused, places_fit, front_places, ways_fit, front_ways, end_answer, end_bytes}
+use Rattle.survey_file.proofs.Writing.{letters_fit, same_contents, front_head, front_places, ways_fit, front_ways, end_answer, end_bytes}
 use Rattle.survey_file.proofs.writer.put_file.Goals as goal
-
-pub returns-in_err-after_head : goal.returns-in_err-after_head
-returns-in_err-after_head c = absurd (head_not_refused c.args.out.now (sealed_contents c.args.survey.now) c.requires _ c.in_err-after_head.ensures.answer)
-
-pub put_all-requires : goal.put_all-requires
-put_all-requires c =
-    let whole = sealed_contents c.args.survey.now in
-    let read : Contents = record { places = c.all_places.result.now; ways = whole.ways } in
-    let same = same_contents read.places read.ways whole c.all_places.ensures.value refl in
-    let room = subst (λ d. length (file_of d) ≤ length c.args.out.now) (sym same) c.requires in
-    let told = c.in_ok-after_head.ensures in
-    record {
-      writable = λ k d below. tt;
-      room = places_fit c.args.out.now read room _ _ (front_head c.args.out.now read room c.in_ok-after_head.after_head c.put.new.out told.answer told.after);
-    }
 
 pub put_all-requires-2 : goal.put_all-requires-2
 put_all-requires-2 c =

@@ -1,22 +1,12 @@
 -- The lines so far stand in the bytes, and there is room for each.
-use Rattle.std.proofs.Common.{Ok, ap, arith}
+use Rattle.std.proofs.Common.{arith}
 use Rattle.sheet.specs.Lines.{text_of}
-use Rattle.sheet.proofs.Stepping.{printed_none, printed_low, printed_more, line_not_refused, printed_all}
+use Rattle.sheet.proofs.Stepping.{printed_none, printed_more}
 use Rattle.sheet.proofs.steps.Drawn.put.Goals as goal
 
 pub loop-step-init : goal.loop-step-init
 loop-step-init g c =
     printed_none (g.S.Site.meaning c.args.self.now.site.now) c.args.self.now.request c.args.self.now.steps.now c.args.out.now c.args.start (omega (arith, c.requires.room)) c.requires.lawful
-
-pub arrive-arrival-requires : goal.arrive-arrival-requires
-arrive-arrival-requires g c =
-    printed_low (g.S.Site.meaning c.args.self.now.site.now) c.args.self.now.request c.args.self.now.steps.now c.args.out.now c.args.start c.loop-step.loss c.loop-step.step-index c.loop-step.at c.loop-step.out
-    c.args.self.now.bound c.loop-step.invariant
-
-pub returns-in_err-at : goal.returns-in_err-at
-returns-in_err-at g c =
-    absurd (line_not_refused (g.S.Site.meaning c.args.self.now.site.now) c.args.self.now.request c.args.self.now.steps.now c.args.out.now c.args.start c.loop-step.loss c.loop-step.step-index c.loop-step.at c.loop-step.out
-    (text_of c.arrive-arrival.result.line) c.requires.room c.loop-step-test.true c.loop-step.invariant c.arrive-arrival.ensures.line _ c.in_err-at.ensures.answer)
 
 pub loop-step-preserved : goal.loop-step-preserved
 loop-step-preserved g c =
@@ -24,9 +14,3 @@ loop-step-preserved g c =
     printed_more (g.S.Site.meaning c.args.self.now.site.now) c.args.self.now.request c.args.self.now.steps.now c.args.out.now c.args.start c.loop-step.loss c.loop-step.step-index c.loop-step.at c.loop-step.out
     (text_of c.arrive-arrival.result.line) c.requires.room c.loop-step-test.true c.loop-step.invariant c.arrive-arrival.ensures.line
     c.in_ok-at.at c.arrive-arrival.result.loss c.put_into.new.out c.arrive-arrival.ensures.loss told.answer told.after
-
-pub returns : goal.returns
-returns g c =
-    let all = printed_all (g.S.Site.meaning c.args.self.now.site.now) c.args.self.now.request c.args.self.now.steps.now c.args.out.now c.args.start c.loop-step.loss c.loop-step.step-index c.loop-step.at c.loop-step.out
-    c.loop-step-test.false c.loop-step.invariant in
-    record { answer = ap Ok all.0; after = all.1 }

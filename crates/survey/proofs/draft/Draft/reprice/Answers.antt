@@ -1,8 +1,6 @@
 -- The way that is lent is the one of that number, and with another price it stays good.
 use Rattle.std.proofs.Common.{is_ok, vec_items, vec_len, sym, ap}
-use Rattle.survey.specs.Contents.{contents}
-use Rattle.survey.specs.Edits.{given, left}
-use Rattle.survey.proofs.Good.{ways_priced, lent_at, reprice_done}
+use Rattle.survey.proofs.Good.{ways_priced, lent_at}
 use Rattle.survey.proofs.draft.Draft.reprice.Goals as goal
 
 pub invariant_of-self-2-clause-good_ways : goal.invariant_of-self-2-clause-good_ways
@@ -11,11 +9,3 @@ invariant_of-self-2-clause-good_ways c =
     let ways = before.table.ways in
     let at = lent_at (λ w. w.now) (vec_items ways) (vec_len ways) c.args.number c.way_mut.result c.in_ok-way.way ways.ok.0 c.way_mut.ensures.finds_facts c.in_ok-way.ensures.ok_part in
     ways_priced (vec_len before.places) (vec_items ways) c.args.number c.in_ok-way.way.now c.args.price before.good_ways at (ap is_ok (sym (c.in_ok-check_price.ensures)))
-
-pub returns : goal.returns
-returns c =
-    let before = c.args.self.now in
-    let ways = before.table.ways in
-    let at = lent_at (λ w. w.now) (vec_items ways) (vec_len ways) c.args.number c.way_mut.result c.in_ok-way.way ways.ok.0 c.way_mut.ensures.finds_facts c.in_ok-way.ensures.ok_part in
-    let done = reprice_done (contents before) c.args.number c.args.price c.in_ok-way.way.now _ at (c.in_ok-check_price.ensures) in
-    record { answer = ap (given tt) (sym done); after = ap (left (contents before)) (sym done) }
