@@ -17,6 +17,15 @@ module _ {C : Type 0} (rows : List (Slot C)) (i : ℕ) (d : Slot C) where
   pub stands : Placed (length rows) (cells rows) (positions rows) → i < length rows → (get_or rows i d).cell < length rows
   stands p h = let e = read (λ s. s.cell) rows i d 0 h in let w = p.cell_within i h in omega arith
 
+  pub cell_of : i < length rows → (get_or rows i d).cell ≡ get_or (cells rows) i 0
+  cell_of h = read (λ s. s.cell) rows i d 0 h
+
+  pub position_of : i < length rows → (get_or rows i d).position ≡ get_or (positions rows) i 0
+  position_of h = read (λ s. s.position) rows i d 0 h
+
+  pub charge_of : (e : C) → i < length rows → (get_or rows i d).charge ≡ get_or (charges rows) i e
+  charge_of e h = read (λ s. s.charge) rows i d e h
+
   -- row `i` with another charge, cell or position
   abbrev pub charged : C → List (Slot C)
   charged c = let s = get_or rows i d in set rows i (record { charge = c; cell = s.cell; position = s.position })
@@ -55,3 +64,5 @@ module _ {C : Type 0} (rows : List (Slot C)) (i : ℕ) (d : Slot C) where
   positions-standing_at b = map-set _ rows i _
 
 pub ruleset columns = (charges-charged, cells-charged, positions-charged, charges-held, cells-held, positions-held, charges-standing_at, cells-standing_at, positions-standing_at)
+
+pub ruleset reads = (stands, cell_of, position_of, charge_of)

@@ -10,7 +10,7 @@ use crate::lent::LentQueue;
 use crate::slot::Slot;
 use charge::kind::Charge;
 
-#[tactic(auto, using(crate::proofs::Columns::columns))]
+#[tactic(auto, using(crate::proofs::Entry::settled))]
 // Each cell goes to the position of its own number, whatever the rows held; the charges stay.
 pub fn set_out<C: Charge>(rows: &mut [Slot<C>])
     ensures charges { charges rows.new ≡ charges rows.old }
@@ -23,7 +23,7 @@ pub fn set_out<C: Charge>(rows: &mut [Slot<C>])
 }
 
 impl<C: Charge, L: Layout> LentQueue<'_, C, L> {
-    #[tactic(auto, using(crate::proofs::Columns::stands))]
+    #[tactic(auto, using(crate::proofs::Columns::reads))]
     // The cell that stands at a position, with its charge; none where there is no such position.
     pub fn standing(&self, position: usize) -> Option<(usize, C)>
         ensures { MatchOption result (length self.now.rows.now ≤ position) (λ p. (position < length self.now.rows.now) × (p.0 ≡ slice_index (cells self.now.rows.now) position) × ((d : C) → p.1 ≡ slice_index_or (charges self.now.rows.now) p.0 d)) }

@@ -23,15 +23,6 @@ sift_up-requires-clause-rising g c =
     let r = rising up g.L.Layout.down g.met.L.Layout.tree rank (length rows) queue.len c.args.cell (charges rows) c.args.charge (cells rows) (positions rows) (cells mid) (positions mid) c.requires.order c.requires.within c.requires.apart x in
     rw (c.exchange.ensures.charges ∙ s.charges) r
 
-pub returns-clause-order : goal.returns-clause-order
-returns-clause-order g c =
-    let u = c.sift_up.ensures in
-    record {
-      placed = c.sift_up.new.self.placed;
-      within = c.sift_up.new.self.within;
-      arranged = simp (u.charges, u.len) u.arranged;
-    }
-
 pub returns-clause-put : goal.returns-clause-put
 returns-clause-put g c =
     let rank = ranked g.L.Layout.turned g.C.Charge.within in
