@@ -22,9 +22,9 @@ returns-clause-answer g c =
     let some : 0 < len = omega arith in
     let last : len - 1 < length rows = omega (arith, queue.within) in
     recast c.standing-taken.result c.standing-taken.ensures (λ past. absurd (omega arith))
-        (λ p at. (
-          omega (arith, at.1, queue.placed.cell_within (len - 1) last),
-          subst (λ (m : ℕ). Taken within (waits_of (charges rows) (positions rows) len) (waits_of (charges rows) (positions rows) (len - 1)) m p.1) (sym at.1)
-              (last_taken within g.met.C.Charge.transitive (itself within g.met.C.Charge.total) (length rows) len (charges rows) (length-map rows (λ s. s.charge)) (cells rows) (positions rows) c.requires some p.1
-              (λ d. at.2 d ∙ ap (λ m. get_or (charges rows) m d) at.1)),
-        ))
+    (λ p at. (
+      omega (arith, at.1, queue.placed.cell_within (len - 1) last),
+      subst (λ (m : ℕ). Taken within (waits_of (charges rows) (positions rows) len) (waits_of (charges rows) (positions rows) (len - 1)) m p.1) (sym at.1)
+          (last_taken within g.met.C.Charge.transitive (itself within g.met.C.Charge.total) (length rows) len (charges rows) (length-map rows (λ s. s.charge)) (cells rows) (positions rows) c.requires some p.1
+          (λ d. at.2 d ∙ ap (λ m. get_or (charges rows) m d) at.1)),
+    ))
