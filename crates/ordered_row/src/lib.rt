@@ -2,7 +2,10 @@
 // charge kind. The highest charge stands first and a lowest one last, so that to take one is a single step.
 #![tactic(auto)]
 
-ghost use Rattle.std.specs.Prelude.{true};
+ghost use Rattle.std.specs.Prelude.{◌≡◌, ◌-◌, ◌<◌, true, length, MatchOption};
+ghost use Rattle.queue.specs.Waits.{Taken};
+ghost use Rattle.slots.specs.Order.{ranked};
+ghost use Rattle.slots.specs.Waiting.{waiting, RowOrder};
 ghost use Rattle.ordered_row.specs.Chain.{before, next};
 ghost use Rattle.std.proofs.Common.{rules};
 
@@ -43,15 +46,22 @@ impl Layout for Chain {
     }
 }
 
+// The cell at the last position that waits, with its charge; none where no cell waits. With one position less, in rows
+// as they are, it waits no more.
+fn last<C: Charge>(queue: &LentQueue<'_, C, Chain>) -> Option<(usize, C)>
+    requires { RowOrder before (ranked true C.Charge.within) (length queue.now.rows.now) queue.now.rows.now queue.now.len }
+    ensures { MatchOption result (queue.now.len ≡ 0) (λ p. (0 < queue.now.len) × (p.0 < length queue.now.rows.now) × Taken C.Charge.within (waiting queue.now.rows.now queue.now.len) (waiting queue.now.rows.now (queue.now.len - 1)) p.0 p.1) }
+{
+    if queue.len == 0 {
+        return None;
+    }
+    queue.standing(queue.len - 1)
+}
+
 impl Leave for Chain {
-    // The cell at the last position that waits: with one position less, in rows as they are, it waits no more.
     fn take<C: Charge>(queue: &mut LentQueue<'_, C, Chain>) -> Option<(usize, C)> {
-        if queue.len == 0 {
-            return None;
-        }
-        let last = queue.len - 1;
-        let taken = queue.standing(last);
-        queue.len = last;
-        taken
+        let taken = last(queue)?;
+        queue.len -= 1;
+        Some(taken)
     }
 }
