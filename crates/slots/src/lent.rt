@@ -57,6 +57,7 @@ impl<C: Charge, L: Leave> PriorityQueue for LentQueue<'_, C, L> {
         self.len = 0;
     }
 
+    #[inline(always)]
     fn put(&mut self, cell: usize, charge: C) -> Result<(), Refusal> {
         if cell >= self.rows() {
             return Err(Refusal::NoSuchCell);
