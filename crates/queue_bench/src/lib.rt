@@ -24,22 +24,20 @@ fn put_all<Q: PriorityQueue<Charge = Money>>(queue: &mut Q, charges: &[u64])
 fn take_all<Q: PriorityQueue<Charge = Money>>(queue: &mut Q, taken: &mut [u64])
     requires { Q.PriorityQueue.ordered queue.old }
 {
-    for i in 0..taken.len() {
+    for place in taken {
         if let Some((_, charge)) = queue.take() {
-            taken[i] = charge.counted();
+            *place = charge.counted();
         }
     }
 }
 
-// At each step a lowest cell is taken, and put again with a charge that is higher by the step.
+// At each step that has room a lowest cell is taken, and put again with a charge that is higher by the step.
 fn churn<Q: PriorityQueue<Charge = Money>>(queue: &mut Q, steps: &[u64], taken: &mut [u64])
     requires { Q.PriorityQueue.ordered queue.old }
 {
-    for (i, step) in steps.iter().enumerate() {
+    for (step, place) in steps.iter().zip(taken) {
         if let Some((cell, charge)) = queue.take() {
-            if i < taken.len() {
-                taken[i] = charge.counted();
-            }
+            *place = charge.counted();
             let _ = queue.put(cell, charge.join(Money { cents: *step }));
         }
     }

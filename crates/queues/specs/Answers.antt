@@ -1,14 +1,13 @@
 -- What an answer says of a call, given what waited before it and what waits after it. Stands on what queue calls do.
-use Rattle.std.specs.Prelude.{◌≡◌, ℕ, ◌<◌, ◌≤◌, ◌⊎◌, None, Option}
+use Rattle.std.specs.Prelude.{◌≡◌, ℕ, ◌<◌, ◌≤◌, ◌⊎◌, None, Some, Option, Ok, Err}
 use Rattle.charge.specs.declared.money.Money.{Money}
 use Rattle.charge.specs.Moneys.{of_cents, figure, money_within}
 use Rattle.refusal.specs.declared.Refusal.TheVariants.{NoSuchCell}
-use Rattle.refusal.specs.Numbers.{number}
 use Rattle.queue.specs.Waits.{Put, Taken}
 use Rattle.queues.specs.declared.call.Call.{Call}
 use Rattle.queues.specs.declared.call.Call.TheVariants.{Rows as ToRows, Put as ToPut, Take as ToTake, Empty as ToEmpty}
 use Rattle.queues.specs.declared.answer.Answer.{Answer}
-use Rattle.queues.specs.declared.answer.Answer.TheVariants.{Rows as HasRows, Put as DidPut, Refused, Took, NoneWaits, Emptied}
+use Rattle.queues.specs.declared.answer.Answer.TheVariants.{Rows as HasRows, Put as DidPut, Took, Emptied}
 
 -- the same waits
 abbrev pub Same : (ℕ → Option Money) → (ℕ → Option Money) → Type 0
@@ -17,12 +16,12 @@ Same before after = (k : ℕ) → after k ≡ before k
 -- `n` rows: a cell below waits then, and any other is refused
 abbrev pub PutAnswered : ℕ → (ℕ → Option Money) → (ℕ → Option Money) → ℕ → Money → Answer → Type 0
 PutAnswered n before after cell charge r =
-    ((r ≡ DidPut) × (cell < n) × Put before after cell charge) ⊎ ((r ≡ Refused (number NoSuchCell)) × (n ≤ cell) × Same before after)
+    ((r ≡ DidPut (Ok tt)) × (cell < n) × Put before after cell charge) ⊎ ((r ≡ DidPut (Err NoSuchCell)) × (n ≤ cell) × Same before after)
 
 -- a lowest charge is taken, or none waits
 abbrev pub TakeAnswered : (ℕ → Option Money) → (ℕ → Option Money) → Answer → Type 0
 TakeAnswered before after r =
-    ((cell : ℕ) × (charge : Money) × (r ≡ Took (figure charge)) × Taken money_within before after cell charge) ⊎ ((r ≡ NoneWaits) × ((k : ℕ) → before k ≡ None) × Same before after)
+    ((cell : ℕ) × (charge : Money) × (r ≡ Took (Some (figure charge))) × Taken money_within before after cell charge) ⊎ ((r ≡ Took None) × ((k : ℕ) → before k ≡ None) × Same before after)
 
 abbrev pub Answered : ℕ → (ℕ → Option Money) → (ℕ → Option Money) → Call → Answer → Type 0
 Answered n before after (ToRows m) r = (r ≡ HasRows n) × Same before after

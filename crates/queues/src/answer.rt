@@ -4,22 +4,36 @@ ghost use Rattle.queues.specs.Answers.{Answered};
 use crate::call::Call;
 use charge::money::Money;
 use queue::queue::PriorityQueue;
+use refusal::Refusal;
+use std::fmt;
 
 // what a queue answers to a call
 #[derive(Clone, Copy, PartialEq, Eq)]
 pub enum Answer {
     // how many rows there are
     Rows(usize),
-    // the cell waits
-    Put,
-    // the call is refused by that number, and nothing has changed
-    Refused(u8),
-    // a charge that means so many cents was taken
-    Took(u64),
-    // no cell waits
-    NoneWaits,
+    // the cell waits, or the call is refused, and nothing has changed
+    Put(Result<(), Refusal>),
+    // a charge that means so many cents was taken, or no cell waits
+    Took(Option<u64>),
     // now no cell waits
     Emptied,
+}
+
+impl fmt::Display for Answer {
+    fn fmt<W: fmt::Write>(&self, f: &mut fmt::Formatter<W>) -> fmt::Result {
+        match *self {
+            Answer::Rows(many) => write!(f, "ROWS {many}"),
+            Answer::Put(Ok(())) => write!(f, "PUT"),
+            Answer::Put(Err(refusal)) => {
+                let code = refusal.code();
+                write!(f, "REFUSED {code}")
+            }
+            Answer::Took(Some(cents)) => write!(f, "TOOK {cents}"),
+            Answer::Took(None) => write!(f, "NONE"),
+            Answer::Emptied => write!(f, "EMPTIED"),
+        }
+    }
 }
 
 // The answer of a queue to a call. To be asked for rows it only tells how many it has.
@@ -30,14 +44,8 @@ pub fn ask<Q: PriorityQueue<Charge = Money>>(queue: &mut Q, call: Call) -> Answe
 {
     match call {
         Call::Rows(_) => Answer::Rows(queue.rows()),
-        Call::Put(cell, cents) => match queue.put(cell, Money { cents }) {
-            Ok(_) => Answer::Put,
-            Err(refusal) => Answer::Refused(refusal.code()),
-        },
-        Call::Take => match queue.take() {
-            Some((_, charge)) => Answer::Took(charge.counted()),
-            None => Answer::NoneWaits,
-        },
+        Call::Put(cell, cents) => Answer::Put(queue.put(cell, Money { cents })),
+        Call::Take => Answer::Took(queue.take().map(|(_, charge)| charge.counted())),
         Call::Empty => {
             queue.clear();
             Answer::Emptied

@@ -21,6 +21,13 @@ pub struct Line {
     pub call: Option<Call>,
 }
 
+impl Line {
+    // Whether the line starts over with other rows.
+    pub fn starts_block(&self) -> bool {
+        matches!(self.call, Some(Call::Rows(_)))
+    }
+}
+
 // The call on a line: a word and its numbers, and nothing behind them.
 fn read_call(text: &str) -> Option<Call> {
     let mut words = text.split_whitespace();
@@ -44,14 +51,11 @@ fn read_call(text: &str) -> Option<Call> {
 
 // All lines, numbered.
 pub fn read_lines(heap: Global, text: &str) -> Result<Vec<Line>, AllocError> {
-    let mut lines = Vec::new(heap);
-    let mut number: u64 = 0;
-    for line in text.lines() {
-        number = number.saturating_add(1);
-        lines.push(Line {
+    text.lines()
+        .zip(1..)
+        .map(|(line, number)| Line {
             number,
             call: read_call(line),
-        })?;
-    }
-    Ok(lines)
+        })
+        .collect(heap)
 }

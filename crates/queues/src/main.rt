@@ -14,10 +14,7 @@ fn run(rt: &HostRuntime) -> anyhow::Result<()> {
     let text = io::read_to_string(rt.alloc(), rt.stdin())?;
     let lines = call::read_lines(rt.alloc(), text.as_str())?;
     let tally = replay::replay(rt, lines.as_slice())?;
-    let calls = tally.calls;
-    let agreed = tally.agreed;
-    let differed = tally.differed;
-    println!(rt; "{calls} calls on both queues: {agreed} agreed, {differed} differed")?;
+    println!(rt; "{tally}")?;
     Ok(())
 }
 

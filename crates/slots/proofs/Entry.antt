@@ -2,6 +2,12 @@
 -- arranged as they were, since none of them moves.
 use Rattle.std.proofs.Common.{◌≡◌, ℕ, ◌+◌, ◌<◌, ◌≤◌, Bool, true, ltb, ◌≢◌, List, length, get_or, set, sym, ap, ◌∙◌, inl, inr, arith, get_or-set_other}
 use Rattle.std.proofs.lemmas.Bool.{cases_eq, cases_lt}
+use Rattle.std.proofs.lemmas.List.{map-set}
+use Rattle.std.proofs.lemmas.List.Edits.{fill_by_more}
+use Rattle.std.proofs.Math.Seq.{map-set_same}
+use lib.ListN.{length-map}
+use Rattle.slots.specs.declared.slot.Slot.{Slot}
+use Rattle.slots.specs.Rows.{cells, positions}
 use Rattle.slots.specs.Order.{Tree, Placed, Exchanged, SameWait, Rising, Ahead}
 use Rattle.slots.specs.Waiting.{waits_of, InOrder}
 use Rattle.queue.specs.Waits.{Put}
@@ -17,6 +23,20 @@ own_positions n cs ps lc lp hc hp = record {
   position_within = λ k h. let e = hp k h in omega arith;
   back = λ k h. ap (λ m. get_or cs m 0) (hp k h) ∙ hc k h;
 }
+
+-- one more row settled
+module _ {C : Type 0} (rows : List (Slot C)) (i : ℕ) (s : Slot C) where
+  pub cells_more : i < length rows → s.cell ≡ i → ((k : ℕ) → k < i → get_or (cells rows) k 0 ≡ k) → (k : ℕ) → k < i + 1 → get_or (cells (set rows i s)) k 0 ≡ k
+  cells_more h is below k b =
+      ap (λ xs. get_or xs k 0) (map-set (λ s. s.cell) rows i s ∙ ap (set (cells rows) i) is)
+      ∙ fill_by_more (λ m. m) (cells rows) i 0 (omega (arith, length-map rows (λ s. s.cell))) below k b
+
+  pub positions_more : i < length rows → s.position ≡ i → ((k : ℕ) → k < i → get_or (positions rows) k 0 ≡ k) → (k : ℕ) → k < i + 1 → get_or (positions (set rows i s)) k 0 ≡ k
+  positions_more h is below k b =
+      ap (λ xs. get_or xs k 0) (map-set (λ s. s.position) rows i s ∙ ap (set (positions rows) i) is)
+      ∙ fill_by_more (λ m. m) (positions rows) i 0 (omega (arith, length-map rows (λ s. s.position))) below k b
+
+pub ruleset settled = (cells_more, positions_more, own_positions, map-set_same)
 
 same_below : (a b : ℕ) → a ≢ b → ltb a (b + 1) ≡ ltb a b
 same_below a b ne = grind (arith, cases_lt a b)

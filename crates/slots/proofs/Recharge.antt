@@ -1,11 +1,17 @@
 -- A cell that waits is charged anew: it belongs higher where its charge may stand above the old one, else lower; the
 -- others are arranged as they were, and across its position by transitivity.
-use Rattle.std.proofs.Common.{◌≡◌, ℕ, ◌<◌, Bool, true, ◌≢◌, List, length, get_or, set, sym, ap, ◌∙◌, subst, inl, inr, arith, get_or-set_other, get_or-set_same, ltb-true}
+use Rattle.std.proofs.Common.{◌≡◌, ℕ, ◌<◌, Bool, true, ◌≢◌, List, length, get_or, set, sym, ap, ◌∙◌, inl, inr, arith, get_or-set_other, get_or-set_same, ltb-true}
 use Rattle.std.proofs.lemmas.Bool.{cases_eq}
-use Rattle.slots.specs.Order.{Tree, Placed, Arranged, SameWait, Rising, Sinking, Ahead}
+use Rattle.slots.specs.Order.{Tree, SameWait, Rising, Sinking, Ahead}
 use Rattle.slots.specs.Waiting.{waits_of, InOrder}
 use Rattle.queue.specs.Waits.{Put}
 use Rattle.slots.proofs.Changes.{yes_below, put}
+
+-- it waits with the new charge, where the same cells wait as before
+pub waits_anew : {C : Type 0} {n len cell : ℕ} (ch : List C) {ch' : List C} {x : C} (ps ps' : List ℕ) → length ch ≡ n → cell < n → get_or ps cell 0 < len → ch' ≡ set ch cell x → SameWait len ps ps'
+    → Put (waits_of ch ps len) (waits_of ch' ps' len) cell x
+waits_anew {n = n} {len = len} {cell = cell} ch {x = x} ps ps' lch hc w wrote same =
+    rw wrote (put n cell ch lch ps len ps' len (λ k h ne. same k) x hc (ltb-true _ _ (same cell ∙ yes_below _ len w)))
 
 module _ {C : Type 0} {up down : ℕ → ℕ} (t : Tree up down) {rank : C → C → Bool} (trans : (a b c : C) → rank a b ≡ true → rank b c ≡ true → rank a c ≡ true)
     {n len cell : ℕ} {ch : List C} (x : C) {old : C} {cs ps : List ℕ}
@@ -69,18 +75,3 @@ module _ {C : Type 0} {up down : ℕ → ℕ} (t : Tree up down) {rank : C → C
         ];
     across = over;
   }
-
-  -- the rows in order again, with the charge written first and the cell then moved to its position: it waits with the new charge
-  pub charged_anew : {n₁ : ℕ} {ch₁ ch₂ : List C} {ps₁ cs₂ ps₂ : List ℕ} → ch₁ ≡ set ch cell x → ps₁ ≡ ps → n₁ ≡ n
-      → ch₂ ≡ ch₁ → Placed n₁ cs₂ ps₂ → Arranged up (Ahead rank ch₁) cs₂ len → SameWait len ps₁ ps₂
-      → InOrder up rank n ch₂ cs₂ ps₂ len × Put (waits_of ch ps len) (waits_of ch₂ ps₂ len) cell x
-  charged_anew {ch₁ = ch₁} {ch₂ = ch₂} {ps₁ = ps₁} {cs₂ = cs₂} {ps₂ = ps₂} wrote stays long kept placed arranged same =
-      let same' : SameWait len ps ps₂ = subst (λ (qs : List ℕ). SameWait len qs ps₂) stays same in
-      let waits : Put (waits_of ch ps len) (waits_of (set ch cell x) ps₂ len) cell x = put n cell ch lch ps len ps₂ len (λ k h ne. same' k) x hc (ltb-true _ _ (same' cell ∙ yes_below _ len w)) in (
-        record {
-          placed = subst (λ (m : ℕ). Placed m cs₂ ps₂) long placed;
-          within = o.within;
-          arranged = subst (λ (z : List C). Arranged up (Ahead rank z) cs₂ len) (sym kept) arranged;
-        },
-        subst (λ (z : List C). Put (waits_of ch ps len) (waits_of z ps₂ len) cell x) (sym (kept ∙ wrote)) waits,
-      )

@@ -19,7 +19,7 @@ two_else : (xs : List ℕ) (i j x y k : ℕ) → k ≢ i → k ≢ j → get_or 
 two_else xs i j x y k p q = get_or-set_other (set xs i x) j k y 0 q ∙ get_or-set_other xs i k x 0 p
 
 pub exchanged : (n : ℕ) (cs ps : List ℕ) (i j : ℕ) → Placed n cs ps → i < n → j < n
-    → Exchanged cs ps (set (set cs i (get_or cs j 0)) j (get_or cs i 0)) (set (set ps (get_or cs i 0) j) (get_or cs j 0) i) i j
+    → Exchanged cs ps (set (set cs i (get_or cs j 0)) j (get_or cs i 0)) (set (set ps (get_or cs j 0) i) (get_or cs i 0) j) i j
 exchanged n cs ps i j p hi hj =
     let lc = p.many_cells in
     let lp = p.many_positions in
@@ -31,9 +31,9 @@ exchanged n cs ps i j p hi hj =
       at_i = two_first cs i j _ _ (omega arith) (λ e. ap (λ k. get_or cs k 0) (sym e));
       at_j = two_last cs i j _ _ (omega arith);
       else = λ k ni nj. two_else cs i j _ _ k ni nj;
-      pos_i = two_first ps _ _ j i (omega arith) (λ e. sym tj ∙ ap (λ k. get_or ps k 0) (sym e) ∙ ti);
-      pos_j = two_last ps _ _ j i (omega arith);
-      pos_else = λ k na nb. two_else ps _ _ j i k na nb;
+      pos_i = two_last ps _ _ i j (omega arith);
+      pos_j = two_first ps _ _ i j (omega arith) (λ e. sym ti ∙ ap (λ k. get_or ps k 0) (sym e) ∙ tj);
+      pos_else = λ k na nb. two_else ps _ _ i j k nb na;
     }
 
 module _ (n : ℕ) (cs ps cs' ps' : List ℕ) (i j : ℕ) (p : Placed n cs ps) (hi : i < n) (hj : j < n) (x : Exchanged cs ps cs' ps' i j) where
@@ -100,3 +100,11 @@ module _ (n : ℕ) (cs ps cs' ps' : List ℕ) (i j : ℕ) (p : Placed n cs ps) (
           | inr nj ↦ ap (λ m. ltb m len) (x.pos_else k ni nj)
         ]
       ]
+
+-- two columns written at two places each
+pub swapped : {n : ℕ} {cs ps cs' ps' : List ℕ} {i j : ℕ} → Placed n cs ps → i < n → j < n
+    → cs' ≡ set (set cs i (get_or cs j 0)) j (get_or cs i 0) → ps' ≡ set (set ps (get_or cs j 0) i) (get_or cs i 0) j
+    → Exchanged cs ps cs' ps' i j × Placed n cs' ps'
+swapped {n} {cs} {ps} {cs'} {ps'} {i} {j} p hi hj ec ep =
+    let x : Exchanged cs ps cs' ps' i j = rw (ec, ep) (exchanged n cs ps i j p hi hj) in
+    (x, placed n cs ps cs' ps' i j p hi hj x (ap length ec ∙ simp length-set p.many_cells) (ap length ep ∙ simp length-set p.many_positions))

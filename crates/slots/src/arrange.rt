@@ -1,121 +1,105 @@
-// The calls that queues over lent rows share.
-ghost use Rattle.std.specs.Prelude.{◌≡◌, ◌+◌, ◌-◌, ◌<◌, ◌≤◌, length, MatchOption, MatchResult, slice_index, slice_index_or, slice_set};
-ghost use Rattle.refusal.specs.declared.Refusal.TheVariants.{NoSuchCell};
+// Cells begin and cease to wait.
+ghost use Rattle.std.specs.Prelude.{◌≡◌, ◌-◌, ◌<◌, ◌≤◌, length, MatchOption, slice_index, slice_index_or, slice_set};
 ghost use Rattle.queue.specs.Waits.{Put, Taken};
 ghost use Rattle.slots.specs.Rows.{charges, cells, positions};
 ghost use Rattle.slots.specs.Order.{Placed, ranked};
 ghost use Rattle.slots.specs.Waiting.{waiting, RowOrder};
 
-use crate::column::{
-    cell_at, charge_at, exchange, may_top, position_at, set_cell, set_charge, set_position,
-};
 use crate::layout::Layout;
-use crate::sift::{sift_down, sift_up};
+use crate::lent::LentQueue;
 use crate::slot::Slot;
 use charge::kind::Charge;
-use refusal::Refusal;
 
-// The row `i` says that cell `i` stands at position `i`.
-fn settle<C: Charge>(rows: &mut [Slot<C>], i: usize)
-    requires { i < length rows.old }
-    ensures charges { charges rows.new ≡ charges rows.old }
-    ensures cells { cells rows.new ≡ slice_set (cells rows.old) i i }
-    ensures positions { positions rows.new ≡ slice_set (positions rows.old) i i }
-{
-    set_cell(rows, i, i);
-    set_position(rows, i, i);
-}
-
+#[tactic(auto, using(crate::proofs::Entry::settled))]
 // Each cell goes to the position of its own number, whatever the rows held; the charges stay.
 pub fn set_out<C: Charge>(rows: &mut [Slot<C>])
     ensures charges { charges rows.new ≡ charges rows.old }
     ensures placed { Placed (length rows.old) (cells rows.new) (positions rows.new) }
 {
-    let mut i = 0;
-    while i < rows.len() {
-        settle(rows, i);
-        i += 1;
+    for (i, slot) in rows.iter_mut().enumerate() {
+        slot.cell = i;
+        slot.position = i;
     }
 }
 
-// `cell`, which does not wait, waits with `charge`: it goes to the position `len`, and up from there.
-fn enter<C: Charge, L: Layout>(rows: &mut [Slot<C>], len: usize, cell: usize, charge: C)
-    requires order { RowOrder L.Layout.up (ranked L.Layout.turned C.Charge.within) (length rows.old) rows.old len }
-    requires within { cell < length rows.old }
-    requires apart { len ≤ slice_index (positions rows.old) cell }
-    ensures room { len < length rows.old }
-    ensures order { RowOrder L.Layout.up (ranked L.Layout.turned C.Charge.within) (length rows.old) rows.new (len + 1) }
-    ensures put { Put (waiting rows.old len) (waiting rows.new (len + 1)) cell charge }
-{
-    set_charge(rows, cell, charge);
-    let at = position_at(rows, cell);
-    exchange(rows, at, len);
-    sift_up::<C, L>(rows, len + 1, len);
-}
+impl<C: Charge, L: Layout> LentQueue<'_, C, L> {
+    #[tactic(auto, using(crate::proofs::Columns::reads))]
+    // The cell that stands at a position, with its charge; none where there is no such position.
+    pub fn standing(&self, position: usize) -> Option<(usize, C)>
+        ensures { MatchOption result (length self.now.rows.now ≤ position) (λ p. (position < length self.now.rows.now) × (p.0 ≡ slice_index (cells self.now.rows.now) position) × ((d : C) → p.1 ≡ slice_index_or (charges self.now.rows.now) p.0 d)) }
+    {
+        if position >= self.rows.len() {
+            return None;
+        }
+        let cell = self.rows[position].cell;
+        Some((cell, self.rows[cell].charge))
+    }
 
-// `cell`, which waits, is charged anew, and goes up or down.
-fn recharge<C: Charge, L: Layout>(rows: &mut [Slot<C>], len: usize, cell: usize, charge: C)
-    requires order { RowOrder L.Layout.up (ranked L.Layout.turned C.Charge.within) (length rows.old) rows.old len }
-    requires within { cell < length rows.old }
-    requires waits { slice_index (positions rows.old) cell < len }
-    ensures order { RowOrder L.Layout.up (ranked L.Layout.turned C.Charge.within) (length rows.old) rows.new len }
-    ensures put { Put (waiting rows.old len) (waiting rows.new len) cell charge }
-{
-    let old = charge_at(rows, cell);
-    let at = position_at(rows, cell);
-    set_charge(rows, cell, charge);
-    if may_top::<C, L>(&charge, &old) {
-        sift_up::<C, L>(rows, len, at);
-        return;
+    #[tactic(auto, using(crate::proofs::Columns::columns))]
+    // `cell` has another charge, and stands where it stood.
+    fn set_charge(&mut self, cell: usize, charge: C)
+        requires { cell < length self.old.rows.now }
+        ensures len { self.new.len ≡ self.old.len }
+        ensures charges { charges self.new.rows.now ≡ slice_set (charges self.old.rows.now) cell charge }
+        ensures cells { cells self.new.rows.now ≡ cells self.old.rows.now }
+        ensures positions { positions self.new.rows.now ≡ positions self.old.rows.now }
+    {
+        self.rows[cell].charge = charge;
     }
-    sift_down::<C, L>(rows, len, at);
-}
 
-// The cell waits with the charge, in place of an older one; the answer is how many wait then.
-pub fn put_cell<C: Charge, L: Layout>(
-    rows: &mut [Slot<C>],
-    len: usize,
-    cell: usize,
-    charge: C,
-) -> Result<usize, Refusal>
-    requires { RowOrder L.Layout.up (ranked L.Layout.turned C.Charge.within) (length rows.old) rows.old len }
-    ensures { MatchResult result (λ m. (cell < length rows.old) × RowOrder L.Layout.up (ranked L.Layout.turned C.Charge.within) (length rows.old) rows.new m × Put (waiting rows.old len) (waiting rows.new m) cell charge) (λ e. (e ≡ NoSuchCell) × (length rows.old ≤ cell) × (rows.new ≡ rows.old)) }
-{
-    if cell >= rows.len() {
-        return Err(Refusal::NoSuchCell);
+    // `cell`, which does not wait, waits with `charge`: it goes to the position behind those that wait, and up from there.
+    pub(crate) fn enter(&mut self, cell: usize, charge: C)
+        requires order { RowOrder L.Layout.up (ranked L.Layout.turned C.Charge.within) (length self.old.rows.now) self.old.rows.now self.old.len }
+        requires within { cell < length self.old.rows.now }
+        requires apart { self.old.len ≤ slice_index (positions self.old.rows.now) cell }
+        ensures many { length self.new.rows.now ≡ length self.old.rows.now }
+        ensures order { RowOrder L.Layout.up (ranked L.Layout.turned C.Charge.within) (length self.new.rows.now) self.new.rows.now self.new.len }
+        ensures put { Put (waiting self.old.rows.now self.old.len) (waiting self.new.rows.now self.new.len) cell charge }
+    {
+        let at = self.rows[cell].position;
+        let last = self.len;
+        self.set_charge(cell, charge);
+        self.exchange(at, last);
+        self.len = last + 1;
+        self.sift_up(last);
     }
-    if position_at(rows, cell) < len {
-        recharge::<C, L>(rows, len, cell, charge);
-        return Ok(len);
-    }
-    enter::<C, L>(rows, len, cell, charge);
-    Ok(len + 1)
-}
 
-// The cell that stands at a position, with its charge; none where there is no such position.
-pub fn standing<C: Charge>(rows: &[Slot<C>], position: usize) -> Option<(usize, C)>
-    requires { Placed (length rows.now) (cells rows.now) (positions rows.now) }
-    ensures { MatchOption result (length rows.now ≤ position) (λ p. (position < length rows.now) × (p.0 ≡ slice_index (cells rows.now) position) × ((d : C) → p.1 ≡ slice_index_or (charges rows.now) p.0 d)) }
-{
-    if position >= rows.len() {
-        return None;
+    // `cell`, which waits, is charged anew, and goes up or down.
+    pub(crate) fn recharge(&mut self, cell: usize, charge: C)
+        requires order { RowOrder L.Layout.up (ranked L.Layout.turned C.Charge.within) (length self.old.rows.now) self.old.rows.now self.old.len }
+        requires within { cell < length self.old.rows.now }
+        requires waits { slice_index (positions self.old.rows.now) cell < self.old.len }
+        ensures many { length self.new.rows.now ≡ length self.old.rows.now }
+        ensures order { RowOrder L.Layout.up (ranked L.Layout.turned C.Charge.within) (length self.new.rows.now) self.new.rows.now self.new.len }
+        ensures put { Put (waiting self.old.rows.now self.old.len) (waiting self.new.rows.now self.new.len) cell charge }
+    {
+        let old = self.rows[cell].charge;
+        let at = self.rows[cell].position;
+        self.set_charge(cell, charge);
+        if L::may_top(&charge, &old) {
+            self.sift_up(at);
+        } else {
+            self.sift_down(at);
+        }
     }
-    let cell = cell_at(rows, position);
-    let charge = charge_at(rows, cell);
-    Some((cell, charge))
-}
 
-// The cell at the top, with its charge, leaves; none where no cell waits.
-pub fn take_top<C: Charge, L: Layout>(rows: &mut [Slot<C>], len: usize) -> Option<(usize, C)>
-    requires { RowOrder L.Layout.up (ranked L.Layout.turned C.Charge.within) (length rows.old) rows.old len }
-    ensures { MatchOption result ((len ≡ 0) × (rows.new ≡ rows.old)) (λ p. (0 < len) × (p.0 < length rows.old) × RowOrder L.Layout.up (ranked L.Layout.turned C.Charge.within) (length rows.old) rows.new (len - 1) × Taken (ranked L.Layout.turned C.Charge.within) (waiting rows.old len) (waiting rows.new (len - 1)) p.0 p.1) }
-{
-    if len == 0 {
-        return None;
+    #[tactic(auto, using(crate::proofs::Columns::stands))]
+    // The cell at the top, with its charge, leaves; none where no cell waits.
+    pub fn take_top(&mut self) -> Option<(usize, C)>
+        requires { RowOrder L.Layout.up (ranked L.Layout.turned C.Charge.within) (length self.old.rows.now) self.old.rows.now self.old.len }
+        ensures many { length self.new.rows.now ≡ length self.old.rows.now }
+        ensures order { RowOrder L.Layout.up (ranked L.Layout.turned C.Charge.within) (length self.new.rows.now) self.new.rows.now self.new.len }
+        ensures answer { MatchOption result ((self.old.len ≡ 0) × (self.new ≡ self.old)) (λ p. (0 < self.old.len) × (self.new.len ≡ self.old.len - 1) × (p.0 < length self.old.rows.now) × Taken (ranked L.Layout.turned C.Charge.within) (waiting self.old.rows.now self.old.len) (waiting self.new.rows.now self.new.len) p.0 p.1) }
+    {
+        if self.len == 0 {
+            return None;
+        }
+        let cell = self.rows[0].cell;
+        let charge = self.rows[cell].charge;
+        let last = self.len - 1;
+        self.exchange(0, last);
+        self.len = last;
+        self.sift_down(0);
+        Some((cell, charge))
     }
-    let cell = cell_at(rows, 0);
-    let charge = charge_at(rows, cell);
-    exchange(rows, 0, len - 1);
-    sift_down::<C, L>(rows, len - 1, 0);
-    Some((cell, charge))
 }

@@ -3,7 +3,7 @@
 #![tactic(auto)]
 
 pub mod arrange;
-mod column;
 pub mod layout;
+pub mod lent;
 mod sift;
 pub mod slot;

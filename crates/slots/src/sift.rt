@@ -1,74 +1,113 @@
 // A cell that stands too low or too high goes to its position, by exchanges along the tree.
-ghost use Rattle.std.specs.Prelude.{◌≡◌, ◌<◌, ◌≤◌, length};
+ghost use Rattle.std.specs.Prelude.{◌≡◌, ◌<◌, length, slice_index, slice_index_or, slice_set};
 ghost use Rattle.slots.specs.Rows.{charges, cells, positions};
-ghost use Rattle.slots.specs.Order.{Placed, Ahead, SameWait, Arranged, Rising, Sinking, Foremost, ranked};
+ghost use Rattle.slots.specs.Order.{Ahead, SameWait, Exchanged, Arranged, Rising, Sinking, Foremost, ranked};
 
-use crate::column::{ahead, exchange};
 use crate::layout::Layout;
+use crate::lent::LentQueue;
 use crate::slot::Slot;
 use charge::kind::Charge;
 
-// The cell at the position `at` goes up as far as it belongs.
-pub fn sift_up<C: Charge, L: Layout>(rows: &mut [Slot<C>], len: usize, at: usize)
-    requires placed { Placed (length rows.old) (cells rows.old) (positions rows.old) }
-    requires within { len ≤ length rows.old }
-    requires below { at < len }
-    requires rising { Rising L.Layout.up (Ahead (ranked L.Layout.turned C.Charge.within) (charges rows.old)) (cells rows.old) len at }
+#[tactic(auto, using(crate::proofs::Columns::columns))]
+// The cell `cell` stands at the position `at`.
+fn stand<C: Charge>(rows: &mut [Slot<C>], cell: usize, at: usize)
+    requires cell { cell < length rows.old }
+    requires at { at < length rows.old }
     ensures charges { charges rows.new ≡ charges rows.old }
-    ensures placed { Placed (length rows.old) (cells rows.new) (positions rows.new) }
-    ensures arranged { Arranged L.Layout.up (Ahead (ranked L.Layout.turned C.Charge.within) (charges rows.old)) (cells rows.new) len }
-    ensures same { SameWait len (positions rows.old) (positions rows.new) }
+    ensures cells { cells rows.new ≡ slice_set (cells rows.old) at cell }
+    ensures positions { positions rows.new ≡ slice_set (positions rows.old) cell at }
 {
-    let mut i = at;
-    while i > 0 {
-        let up = L::parent(i);
-        if ahead::<C, L>(rows, up, i) {
-            return;
-        }
-        exchange(rows, up, i);
-        i = up;
-    }
+    rows[at].cell = cell;
+    rows[cell].position = at;
 }
 
-// Of the positions right below `i`, of which `first` is one, that whose cell may stand above the others.
-fn foremost<C: Charge, L: Layout>(rows: &[Slot<C>], len: usize, i: usize, first: usize) -> usize
-    requires placed { Placed (length rows.now) (cells rows.now) (positions rows.now) }
-    requires within { len ≤ length rows.now }
-    requires first { first ≡ L.Layout.down i }
-    requires below { first < len }
-    ensures { Foremost L.Layout.up (Ahead (ranked L.Layout.turned C.Charge.within) (charges rows.now)) (cells rows.now) len i result }
-{
-    let next = first + 1;
-    if next >= len {
-        return first;
+impl<C: Charge, L: Layout> LentQueue<'_, C, L> {
+    #[tactic(auto, using(crate::proofs::Columns::stands))]
+    // Whether what stands at the position `i` may stand above what stands at `j`.
+    fn ahead(&self, i: usize, j: usize) -> bool
+        requires i_within { i < length self.now.rows.now }
+        requires j_within { j < length self.now.rows.now }
+        ensures { (d : C) → result ≡ ranked L.Layout.turned C.Charge.within (slice_index_or (charges self.now.rows.now) (slice_index (cells self.now.rows.now) i) d) (slice_index_or (charges self.now.rows.now) (slice_index (cells self.now.rows.now) j) d) }
+    {
+        let rows = &*self.rows;
+        let a = rows[i].cell;
+        let b = rows[j].cell;
+        L::may_top(&rows[a].charge, &rows[b].charge)
     }
-    let above = L::parent(next);
-    if above != i {
-        return first;
-    }
-    if ahead::<C, L>(rows, first, next) {
-        return first;
-    }
-    next
-}
 
-// The cell at the position `at` goes down as far as it belongs.
-pub fn sift_down<C: Charge, L: Layout>(rows: &mut [Slot<C>], len: usize, at: usize)
-    requires placed { Placed (length rows.old) (cells rows.old) (positions rows.old) }
-    requires within { len ≤ length rows.old }
-    requires sinking { Sinking L.Layout.up (Ahead (ranked L.Layout.turned C.Charge.within) (charges rows.old)) (cells rows.old) len at }
-    ensures charges { charges rows.new ≡ charges rows.old }
-    ensures placed { Placed (length rows.old) (cells rows.new) (positions rows.new) }
-    ensures arranged { Arranged L.Layout.up (Ahead (ranked L.Layout.turned C.Charge.within) (charges rows.old)) (cells rows.new) len }
-    ensures same { SameWait len (positions rows.old) (positions rows.new) }
-{
-    let mut i = at;
-    while let Some(first) = L::child(i, len) {
-        let low = foremost::<C, L>(rows, len, i, first);
-        if ahead::<C, L>(rows, i, low) {
-            return;
+    #[tactic(auto, using(crate::proofs::Columns::stands))]
+    // What stands at the positions `i` and `j` is exchanged.
+    pub(crate) fn exchange(&mut self, i: usize, j: usize)
+        requires i_within { i < length self.old.rows.now }
+        requires j_within { j < length self.old.rows.now }
+        ensures len { self.new.len ≡ self.old.len }
+        ensures charges { charges self.new.rows.now ≡ charges self.old.rows.now }
+        ensures exchanged { Exchanged (cells self.old.rows.now) (positions self.old.rows.now) (cells self.new.rows.now) (positions self.new.rows.now) i j }
+    {
+        let rows = &mut *self.rows;
+        let a = rows[i].cell;
+        let b = rows[j].cell;
+        stand(rows, b, i);
+        stand(rows, a, j);
+    }
+
+    // The cell at the position `at` goes up as far as it belongs.
+    pub(crate) fn sift_up(&mut self, at: usize)
+        requires below { at < self.old.len }
+        requires rising { Rising L.Layout.up (Ahead (ranked L.Layout.turned C.Charge.within) (charges self.old.rows.now)) (cells self.old.rows.now) self.old.len at }
+        ensures len { self.new.len ≡ self.old.len }
+        ensures charges { charges self.new.rows.now ≡ charges self.old.rows.now }
+        ensures arranged { Arranged L.Layout.up (Ahead (ranked L.Layout.turned C.Charge.within) (charges self.old.rows.now)) (cells self.new.rows.now) self.old.len }
+        ensures same { SameWait self.old.len (positions self.old.rows.now) (positions self.new.rows.now) }
+    {
+        let mut i = at;
+        while i > 0 {
+            let up = L::parent(i);
+            if self.ahead(up, i) {
+                return;
+            }
+            self.exchange(up, i);
+            i = up;
         }
-        exchange(rows, i, low);
-        i = low;
+    }
+
+    // Of the positions right below `i`, of which `first` is one, that whose cell may stand above the others.
+    fn foremost(&self, i: usize, first: usize) -> usize
+        requires first { first ≡ L.Layout.down i }
+        requires below { first < self.now.len }
+        ensures { Foremost L.Layout.up (Ahead (ranked L.Layout.turned C.Charge.within) (charges self.now.rows.now)) (cells self.now.rows.now) self.now.len i result }
+    {
+        let len = self.len;
+        let next = first + 1;
+        if next >= len {
+            return first;
+        }
+        let above = L::parent(next);
+        if above != i {
+            return first;
+        }
+        if self.ahead(first, next) {
+            return first;
+        }
+        next
+    }
+
+    // The cell at the position `at` goes down as far as it belongs.
+    pub(crate) fn sift_down(&mut self, at: usize)
+        requires { Sinking L.Layout.up (Ahead (ranked L.Layout.turned C.Charge.within) (charges self.old.rows.now)) (cells self.old.rows.now) self.old.len at }
+        ensures len { self.new.len ≡ self.old.len }
+        ensures charges { charges self.new.rows.now ≡ charges self.old.rows.now }
+        ensures arranged { Arranged L.Layout.up (Ahead (ranked L.Layout.turned C.Charge.within) (charges self.old.rows.now)) (cells self.new.rows.now) self.old.len }
+        ensures same { SameWait self.old.len (positions self.old.rows.now) (positions self.new.rows.now) }
+    {
+        let mut i = at;
+        while let Some(first) = L::child(i, self.len) {
+            let low = self.foremost(i, first);
+            if self.ahead(i, low) {
+                return;
+            }
+            self.exchange(i, low);
+            i = low;
+        }
     }
 }

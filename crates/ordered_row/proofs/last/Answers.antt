@@ -1,5 +1,5 @@
 -- the last cell is read with its charge, and its leaving is the lemma's
-use Rattle.std.proofs.Common.{ℕ, ◌-◌, ◌<◌, length, get_or, Some, None, Option, sym, refl, ap, ◌∙◌, subst, arith, MatchOption}
+use Rattle.std.proofs.Common.{ℕ, ◌-◌, ◌<◌, length, get_or, Some, None, Option, sym, ap, ◌∙◌, subst, arith, MatchOption}
 use lib.ListN.{length-map}
 use Rattle.slots.specs.Rows.{cells, positions, charges}
 use Rattle.slots.specs.Waiting.{waits_of}
@@ -15,24 +15,17 @@ recast (Some a) q f h = h a q
 
 pub returns : goal.returns
 returns g c =
-    let rows = c.args.rows.now in
-    let len = c.args.len in
+    let queue = c.args.queue.now in
+    let rows = queue.rows.now in
+    let len = queue.len in
     let within = g.C.Charge.within in
-    let w = c.requires.within in
     let some : 0 < len = omega arith in
-    record {
-      same = refl;
-      answer = recast c.standing.result c.standing.ensures (λ past. omega arith)
-          (λ p at. (
-            some,
-            omega (arith, at.1, c.requires.placed.cell_within (len - 1) (omega arith)),
-            record {
-              placed = c.requires.placed;
-              within = omega arith;
-              arranged = λ k h b. c.requires.arranged k h (omega arith);
-            },
-            subst (λ (m : ℕ). Taken within (waits_of (charges rows) (positions rows) len) (waits_of (charges rows) (positions rows) (len - 1)) m p.1) (sym at.1)
-                (last_taken within g.met.C.Charge.transitive (itself within g.met.C.Charge.total) (length rows) len (charges rows) (length-map rows (λ s. s.charge)) (cells rows) (positions rows) c.requires some p.1
-                (λ d. at.2 d ∙ ap (λ m. get_or (charges rows) m d) at.1)),
-          ));
-    }
+    let last : len - 1 < length rows = omega (arith, queue.within) in
+    recast c.standing.result c.standing.ensures (λ past. absurd (omega arith))
+    (λ p at. (
+      some,
+      omega (arith, at.1, queue.placed.cell_within (len - 1) last),
+      subst (λ (m : ℕ). Taken within (waits_of (charges rows) (positions rows) len) (waits_of (charges rows) (positions rows) (len - 1)) m p.1) (sym at.1)
+          (last_taken within g.met.C.Charge.transitive (itself within g.met.C.Charge.total) (length rows) len (charges rows) (length-map rows (λ s. s.charge)) (cells rows) (positions rows) c.requires some p.1
+          (λ d. at.2 d ∙ ap (λ m. get_or (charges rows) m d) at.1)),
+    ))

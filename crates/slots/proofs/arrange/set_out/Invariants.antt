@@ -1,14 +1,10 @@
 -- the rows before `i` hold their own numbers
-use Rattle.std.proofs.Common.{◌≡◌, ℕ, ◌-◌, ◌<◌, ◌≤◌, length, get_or}
+use Rattle.std.proofs.Common.{◌≡◌, ℕ, ◌<◌, get_or}
 use Rattle.slots.specs.Rows.{cells, positions, charges}
 use Rattle.slots.proofs.arrange.set_out.Given as goal
 
 abbrev pub invariant-loop-i : goal.invariant-loop-i
 invariant-loop-i g l =
-    (l.i ≤ length l.initial.rows)
-    × (charges l.rows ≡ charges l.initial.rows)
+    (charges l.rows ≡ charges l.initial.rows)
     × ((k : ℕ) → k < l.i → get_or (cells l.rows) k 0 ≡ k)
     × ((k : ℕ) → k < l.i → get_or (positions l.rows) k 0 ≡ k)
-
-abbrev pub decreases-loop-i : goal.decreases-loop-i
-decreases-loop-i g l = length l.initial.rows - l.i

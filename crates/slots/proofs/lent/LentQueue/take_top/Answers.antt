@@ -1,0 +1,32 @@
+-- the cell at the top and the last that waits are exchanged, and the one now at the top goes down
+use Rattle.std.proofs.Common.{◌<◌, length, get_or, ap, ◌∙◌, arith}
+use lib.ListN.{length-map}
+use Rattle.slots.specs.Order.{ranked}
+use Rattle.slots.specs.Rows.{cells, positions, charges}
+use Rattle.slots.proofs.Columns.{read, stands}
+use Rattle.slots.proofs.Ranks.{ranked_transitive, ranked_total, itself}
+use Rattle.slots.proofs.Top.{top_taken}
+use Rattle.slots.proofs.lent.LentQueue.take_top.Goals as goal
+
+pub returns-clause-answer : goal.returns-clause-answer
+returns-clause-answer g c =
+    let within = g.C.Charge.within in
+    let turned = g.L.Layout.turned in
+    let rank = ranked turned within in
+    let queue = c.args.self.now in
+    let rows = queue.rows.now in
+    let mid = c.exchange.new.self.rows.now in
+    let last = c.sift_down.new.self.rows.now in
+    let len = queue.len in
+    let some : 0 < len = omega arith in
+    let first : 0 < length rows = omega (arith, queue.within) in
+    let u = c.sift_down.ensures in
+    let in_rows = stands rows 0 c.index-self-0.result queue.placed first in
+    let top = read (λ s. s.cell) rows 0 c.index-self-0.result 0 first in
+    let p = top_taken g.L.Layout.up g.L.Layout.down g.met.L.Layout.tree rank (length rows) len (charges rows) (cells rows) (positions rows) (cells mid) (positions mid) c.requires some c.exchange.ensures.exchanged
+    (ranked_transitive within g.met.C.Charge.transitive turned) (itself rank (ranked_total within g.met.C.Charge.total turned)) _ (λ d. read (λ s. s.charge) rows _ c.index-self-cell.result d in_rows ∙ ap (λ m. get_or (charges rows) m d) top) (length-map rows (λ s. s.charge)) (positions last) u.same in (
+      some,
+      u.len,
+      in_rows,
+      rw (u.len, u.charges ∙ c.exchange.ensures.charges) (rw (← top) at p),
+    )

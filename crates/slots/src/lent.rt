@@ -1,0 +1,76 @@
+ghost use Rattle.std.specs.Prelude.{◌≡◌, ℕ, ◌≤◌, length, None};
+ghost use Rattle.slots.specs.Rows.{charges, cells, positions};
+ghost use Rattle.slots.specs.Order.{Placed, ranked};
+ghost use Rattle.slots.specs.Waiting.{waiting, RowOrder};
+
+use crate::arrange::set_out;
+use crate::layout::{Layout, Leave};
+use crate::slot::Slot;
+use charge::kind::Charge;
+use queue::queue::PriorityQueue;
+use refusal::Refusal;
+use std::marker::PhantomData;
+
+// A priority queue over lent rows, for every charge kind and every layout: the cells at the first `len` positions wait.
+#[derive(Drop)]
+pub struct LentQueue<'a, C, L> {
+    pub rows: &'a mut [Slot<C>],
+    pub len: usize,
+    pub layout: PhantomData<L>,
+    // each cell stands at one position
+    ghost placed: { Placed (length rows.now) (cells rows.now) (positions rows.now) },
+    // no more positions hold a cell that waits than there are rows
+    ghost within: { len ≤ length rows.now },
+}
+
+impl<'a, C: Charge, L: Layout> LentQueue<'a, C, L> {
+    // A queue in which no cell waits, whatever the rows held.
+    pub fn over(rows: &'a mut [Slot<C>]) -> LentQueue<'a, C, L>
+        ensures ordered { RowOrder L.Layout.up (ranked L.Layout.turned C.Charge.within) (length result.rows.now) result.rows.now result.len }
+        ensures many { length result.rows.now ≡ length rows.old }
+        ensures empty { (k : ℕ) → waiting result.rows.now result.len k ≡ None }
+    {
+        set_out(rows);
+        LentQueue {
+            rows,
+            len: 0,
+            layout: PhantomData,
+        }
+    }
+}
+
+impl<C: Charge, L: Leave> PriorityQueue for LentQueue<'_, C, L> {
+    type Charge = C;
+
+    ghost waits = { λ q. waiting q.rows.now q.len };
+
+    ghost ordered = { λ q. RowOrder L.Layout.up (ranked L.Layout.turned C.Charge.within) (length q.rows.now) q.rows.now q.len };
+
+    ghost many = { λ q. length q.rows.now };
+
+    fn rows(&self) -> usize {
+        self.rows.len()
+    }
+
+    fn clear(&mut self) {
+        set_out(self.rows);
+        self.len = 0;
+    }
+
+    #[inline(always)]
+    fn put(&mut self, cell: usize, charge: C) -> Result<(), Refusal> {
+        if cell >= self.rows() {
+            return Err(Refusal::NoSuchCell);
+        }
+        if self.rows[cell].position < self.len {
+            self.recharge(cell, charge);
+        } else {
+            self.enter(cell, charge);
+        }
+        Ok(())
+    }
+
+    fn take(&mut self) -> Option<(usize, C)> {
+        L::take(self)
+    }
+}
