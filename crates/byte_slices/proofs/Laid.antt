@@ -91,13 +91,6 @@ not_refused out at xs e fits refused = let z : ◌≡◌ {A = ℕ} 0 1 = apart (
     apart : {n : ℕ} → ◌≡◌ {A = Result ℕ Refusal} (Err e) (Ok n) → ◌≡◌ {A = ℕ} 0 1
     apart h = cc
 
--- what stands up to the end of a piece that was laid
-pub over_front : (out : List ℕ) (at : ℕ) (xs : List ℕ) → at + length xs ≤ length out → take (at + length xs) (over out at xs) ≡ take at out ++ xs
-over_front out at xs h =
-    let front = length-take-le at out (omega arith) in
-    ap (take (at + length xs)) (over_fits out at xs h ∙ sym (append_assoc (take at out) xs (drop (at + length xs) out)))
-    ∙ take_at (take at out ++ xs) (drop (at + length xs) out) (at + length xs) (length-append (take at out) xs ∙ ap (λ n. n + length xs) front)
-
 -- a text that stands at the front of the bytes, up to `at`
 pub record Front (before text : List ℕ) (at : ℕ) (out : List ℕ) : Type 0 where
   pub next : at ≡ length text

@@ -42,11 +42,6 @@ cut_shorter text line others some (inl e) =
 cut_shorter [] line others some (inr (whole, none)) = absurd (some refl)
 cut_shorter (x ∷ xs) line others some (inr (whole, none)) = let short : length others ≡ 0 = ap length none in omega arith
 
--- what a test of the length tells
-pub some_long : (xs : List ℕ) → false ≡ eqb (length xs) 0 → 0 < length xs
-some_long [] h = let z : ◌≡◌ {A = ℕ} 0 1 = cc in absurd (omega arith)
-some_long (x ∷ xs) h = omega arith
-
 pub not_empty : (xs : List ℕ) → false ≡ eqb (length xs) 0 → xs ≡ [] → ⊥
 not_empty xs h e = let z : false ≡ true = h ∙ ap (λ (ys : List ℕ). eqb (length ys) 0) e in let y : ◌≡◌ {A = ℕ} 0 1 = cc in omega arith
 

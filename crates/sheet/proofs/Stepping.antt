@@ -1,10 +1,9 @@
 -- The lines of a lawful run, one step at a time: what is left of the run leads on lawfully from some place, so the loss so
 -- far is within the bound, and its lines are what is left of the lines.
-use Rattle.std.proofs.Common.{◌≡◌, ℕ, ◌+◌, ◌-◌, ◌<◌, ◌≤◌, Bool, true, false, List, [], ◌∷◌, ◌++◌, length, get_or, drop, Ok, Err, sym, refl, ap, ◌∙◌, subst, arith}
+use Rattle.std.proofs.Common.{◌≡◌, ℕ, ◌+◌, ◌<◌, ◌≤◌, Bool, true, false, List, [], ◌∷◌, ◌++◌, length, get_or, drop, Ok, sym, refl, ap, ◌∙◌, subst, arith}
 use Rattle.std.proofs.lemmas.List.{drop_more, drop_all, append_assoc, append-nil, length-append}
-use Rattle.refusal.specs.declared.Refusal.{Refusal}
 use Rattle.byte_slices.specs.Lay.{placed, over}
-use Rattle.byte_slices.proofs.Laid.{placed_ok, not_refused, over_none, over_length, over_more}
+use Rattle.byte_slices.proofs.Laid.{placed_ok, over_none, over_length, over_more}
 use Rattle.site.specs.declared.run.Step.{Step}
 use Rattle.site.specs.declared.run.Request.{Request}
 use Rattle.site.specs.Meaning.{SiteMeaning}
@@ -81,9 +80,6 @@ module _ {C : Type 0} (m : SiteMeaning C) (q : Request) (steps : List Step) wher
     pub long : n ≡ length done
     pub few : n ≤ most
 
-  pub measured_none : (most : ℕ) → Run m q steps → Measured most 0 0 0
-  measured_none most r = record { done = []; lined = lined_none r; long = refl; few = omega arith }
-
   pub measured_more : (most loss i n n' loss' : ℕ) (line : List ℕ) → i < length steps → Measured most loss i n → line ≡ line_of loss (step_at i) (m.way (step_at i).way)
       → loss' ≡ loss_behind (m.way (step_at i).way) (step_at i).mark loss → n' ≡ n + length line → n' ≤ most → Measured most loss' (i + 1) n'
   measured_more most loss i n n' loss' line h c is behind sum few =
@@ -94,22 +90,6 @@ module _ {C : Type 0} (m : SiteMeaning C) (q : Request) (steps : List Step) wher
         long = sum ∙ ap (λ k. k + length line) c.long ∙ ap (λ t. length c.done + length t) is ∙ sym (length-append c.done text);
         few = few;
       }
-
-  -- a line that is too long makes the whole too long
-  pub measured_over : (most loss i n : ℕ) (line : List ℕ) → i < length steps → Measured most loss i n → line ≡ line_of loss (step_at i) (m.way (step_at i).way)
-      → most - n < length line → most < length (step_lines m 0 steps)
-  measured_over most loss i n line h c is over-long =
-      let all = lined_long loss i c.done h c.lined in
-      let same = ap length is in
-      let sum = c.long in
-      let few = c.few in
-      omega arith
-
-  pub measured_all : (most loss i n : ℕ) → length steps ≤ i → Measured most loss i n → (n ≡ length (step_lines m 0 steps)) × (n ≤ most)
-  measured_all most loss i n h c = (c.long ∙ ap length (lined_all loss i c.done h c.lined), c.few)
-
-  pub loss_low : (most loss i n : ℕ) → q.bound ≤ 1000 → Measured most loss i n → loss ≤ 1000
-  loss_low most loss i n h c = let l = c.lined.left.within in omega arith
 
   -- the lines so far stand in the bytes, from `start` on
   pub record Printed (before : List ℕ) (start loss i at : ℕ) (out : List ℕ) : Type 0 where
@@ -132,9 +112,6 @@ module _ {C : Type 0} (m : SiteMeaning C) (q : Request) (steps : List Step) wher
         let long = ap length c.bytes ∙ over_length before start c.done fits in
         omega arith
 
-    pub line_not_refused : (e : Refusal) → Err e ≡ placed out at line → ⊥
-    line_not_refused e refused = not_refused out at line e line_fits refused
-
     pub printed_more : (at' loss' : ℕ) (out' : List ℕ) → loss' ≡ loss_behind (m.way (step_at i).way) (step_at i).mark loss → Ok at' ≡ placed out at line → out' ≡ over out at line
         → Printed before start loss' (i + 1) at' out'
     printed_more at' loss' out' behind answered laid =
@@ -151,12 +128,3 @@ module _ {C : Type 0} (m : SiteMeaning C) (q : Request) (steps : List Step) wher
           next = placed_at_lem.1 ∙ omega arith;
           bytes = laid ∙ ap (over out at) is ∙ ap (λ o. over o at text) c.bytes ∙ over_more before start at c.done text here fits;
         }
-
-  pub printed_all : (before : List ℕ) (start loss i at : ℕ) (out : List ℕ) → length steps ≤ i → Printed before start loss i at out
-      → (at ≡ start + length (step_lines m 0 steps)) × (out ≡ over before start (step_lines m 0 steps))
-  printed_all before start loss i at out h c =
-      let all = lined_all loss i c.done h c.lined in
-      (c.next ∙ ap (λ t. start + length t) all, c.bytes ∙ ap (over before start) all)
-
-  pub printed_low : (before : List ℕ) (start loss i at : ℕ) (out : List ℕ) → q.bound ≤ 1000 → Printed before start loss i at out → loss ≤ 1000
-  printed_low before start loss i at out h c = let l = c.lined.left.within in omega arith

@@ -8,8 +8,7 @@ use Rattle.std.proofs.lemmas.Bool.{eqb-true, ltb-true, leb-true}
 use Rattle.survey.specs.declared.entry.Place.{Place}
 use Rattle.survey.specs.declared.entry.WayEntry.{WayEntry}
 use Rattle.survey.specs.Checks.{then, price_check, place_check, ends_check, way_check, good_places, good_way, good_ways}
-use Rattle.survey.specs.Contents.{Contents}
-use Rattle.survey.specs.Edits.{priced, reprice_way, reprice}
+use Rattle.survey.specs.Edits.{priced}
 use Rattle.refusal.specs.declared.Refusal.TheVariants.{WrongEnds, WrongLetter, TooLong}
 use Rattle.std.proofs.lemmas.Option.{slice_get_read}
 
@@ -87,12 +86,6 @@ lent_at now xs n i (Some k) m e told is =
     let below : i < n = grind (arith, nat_tests, told.0) in
     let same : k ≡ m = cc in
     slice_get_read xs n i (now k) e below told.1 ∙ ap (λ x. Some (now x)) same
-
--- a way that stands there, at a price that passes, is repriced
-pub reprice_done : (c : Contents) (i p : ℕ) (w : WayEntry) (u : Unit {0}) → slice_get c.ways i ≡ Some w → Ok u ≡ price_check p
-    → reprice c i p ≡ Ok (record { places = c.places; ways = set c.ways i (priced w p) })
-reprice_done c i p w u at passed =
-    ap (reprice_way c i p) at ∙ ap (λ r. then r (λ _. Ok (record { places = c.places; ways = set c.ways i (priced w p) }))) (sym passed)
 
 -- each of the ways of a list that is good is good
 pub way_good : (n : ℕ) (ws : List WayEntry) (i : ℕ) (w : WayEntry) → good_ways n ws ≡ true → slice_get ws i ≡ Some w → good_way n w ≡ true

@@ -1,18 +1,18 @@
 -- The fields of a file, one behind the other: what one entry more adds, and how many bytes there are.
-use Rattle.std.proofs.Common.{◌≡◌, ℕ, zero, suc, ◌+◌, ◌*◌, ◌≤◌, true, List, [], ◌∷◌, ◌++◌, length, take, Some, None, Ok, Err, Option, Result, sym, refl, ap, ◌∙◌, add-one, arith}
+use Rattle.std.proofs.Common.{◌≡◌, ℕ, zero, suc, ◌+◌, ◌*◌, ◌≤◌, true, List, [], ◌∷◌, ◌++◌, length, take, Some, Ok, Err, Result, sym, refl, ap, ◌∙◌, add-one, arith}
 use Rattle.std.specs.List.{slice_get, All, flat_map}
 use Rattle.std.proofs.lemmas.List.{append-nil, append_assoc, length-append, take_all}
 use Rattle.refusal.specs.declared.Refusal.{Refusal}
 use Rattle.survey_file.proofs.Answering.{ok_same}
 use Rattle.byte_slices.specs.Lay.{placed, over}
-use Rattle.byte_slices.proofs.Laid.{placed_fits, over_none, over_length, over_more, Front, front_fits, front_more}
+use Rattle.byte_slices.proofs.Laid.{placed_fits, over_length, over_more, Front, front_fits, front_more}
 use Rattle.byte_slices.proofs.Laid.{not_refused as refused-not}
 use Rattle.survey.specs.declared.entry.Place.{Place}
 use Rattle.survey.specs.declared.entry.WayEntry.{WayEntry}
 use Rattle.survey.specs.Contents.{Contents}
 use Rattle.survey.specs.Checks.{good_way, good_ways}
 use Rattle.survey.proofs.Good.{cond_first, cond_second, way_passed, way_loss, letter_small}
-use Rattle.survey_file.specs.Encode.{head_field, repeater_field, place_field, way_field, letter_fits, end_field, file_of}
+use Rattle.survey_file.specs.Encode.{head_field, place_field, way_field, letter_fits, end_field, file_of}
 
 joined_suc : {X : Type 0} (f : X → List ℕ) (xs : List X) (i : ℕ) (x : X) → slice_get xs i ≡ Some x → flat_map f (take (suc i) xs) ≡ flat_map f (take i xs) ++ f x
 joined_suc f [] i x h = let z : ◌≡◌ {A = ℕ} 0 1 = cc in absurd (omega arith)
@@ -22,10 +22,6 @@ joined_suc f (y ∷ xs) (suc i) x h = ap (λ ys. f y ++ ys) (joined_suc f xs i x
 -- the fields of the first entries, and one more
 pub joined_next : {X : Type 0} (f : X → List ℕ) (xs : List X) (i : ℕ) (x : X) → Some x ≡ slice_get xs i → flat_map f (take (i + 1) xs) ≡ flat_map f (take i xs) ++ f x
 joined_next f xs i x h = ap (λ n. flat_map f (take n xs)) (add-one i) ∙ joined_suc f xs i x (sym h)
-
-pub place_long : (r : Option ℕ) → length (repeater_field r) ≤ 7
-place_long None = omega arith
-place_long (Some p) = omega arith
 
 pub ways_long : (ws : List WayEntry) → length (flat_map way_field ws) ≡ 15 * length ws
 ways_long [] = refl
@@ -50,9 +46,6 @@ letters_fit n (w ∷ ws) good (suc k) d below = letters_fit n ws (cond_second (g
 pub record Put {X : Type 0} (f : X → List ℕ) (xs : List X) (before : List ℕ) (start i at : ℕ) (out : List ℕ) : Type 0 where
   pub next : at ≡ start + length (flat_map f (take i xs))
   pub bytes : out ≡ over before start (flat_map f (take i xs))
-
-pub put_none : {X : Type 0} (f : X → List ℕ) (xs : List X) (before : List ℕ) (start : ℕ) → start ≤ length before → Put f xs before start 0 start before
-put_none f xs before start h = record { next = omega arith; bytes = sym (over_none before start h) }
 
 joined_front : {X : Type 0} (f : X → List ℕ) (xs : List X) (i : ℕ) → length (flat_map f (take i xs)) ≤ length (flat_map f xs)
 joined_front f [] zero = omega arith
@@ -128,14 +121,6 @@ module _ (before : List ℕ) (c : Contents) (room : length (file_of c) ≤ lengt
       let l = file_long c in
       let fits : 0 + 5 ≤ length before = omega arith in
       record { next = ok_same a 5 (answered ∙ placed_fits before 0 head_field fits); bytes = is }
-
-  pub head_not_refused : (e : Refusal) → Err e ≡ placed before 0 head_field → ⊥
-  head_not_refused e refused =
-      let l = file_long c in
-      refused-not before 0 head_field e (omega arith) refused
-
-  pub places_fit : (a : ℕ) (o : List ℕ) → Front before head_field a o → a + length (flat_map place_field c.places) ≤ length o
-  places_fit a o f = front_fits before head_field (flat_map place_field c.places) a o room_parts.0 f
 
   pub front_places : (a b : ℕ) (o o' : List ℕ) → Front before head_field a o → ◌≡◌ {A = Result ℕ Refusal} (Ok b) (Ok (a + length (flat_map place_field c.places)))
       → o' ≡ over o a (flat_map place_field c.places) → Front before up_to_places b o'
