@@ -58,9 +58,6 @@ module _ {C : Type 0} (m : SiteMeaning C) (q : Request) (steps : List Step) wher
         lines = append_assoc done line rest ∙ ap (λ xs. done ++ step_lines m loss xs) (sym next) ∙ l.lines;
       }
 
-  pub lined_all : (loss i : ℕ) (done : List ℕ) → length steps ≤ i → Lined loss i done → done ≡ step_lines m 0 steps
-  lined_all loss i done h l = sym (append-nil done) ∙ ap (λ xs. done ++ step_lines m loss xs) (sym (drop_all i steps h)) ∙ l.lines
-
   -- the lines so far and the next are no longer than all
   pub lined_long : (loss i : ℕ) (done : List ℕ) → i < length steps → Lined loss i done
       → length done + length (line_of loss (step_at i) (m.way (step_at i).way)) ≤ length (step_lines m 0 steps)
