@@ -27,7 +27,7 @@ impl Layout for Binary {
     ghost tree = { Prim.search rules };
 
     fn parent(i: usize) -> usize {
-        if i == 0 { 0 } else { (i - 1) / 2 }
+        i.saturating_sub(1) / 2
     }
 
     fn child(i: usize, len: usize) -> Option<usize> {

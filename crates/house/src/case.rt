@@ -1,18 +1,21 @@
 // One case: what is planned, what it should give, and what it gave with each queue.
 ghost use Rattle.std.specs.Prelude.{◌≡◌, ◌+◌, min, if◌then◌else◌};
 
-use crate::gave::{Gave, of_money};
-use crate::memory::{Memory, Rows, with_heap, with_ordered_row};
+use crate::gave::of_money;
+use crate::memory::{Memory, Rows, with_queue};
 use charge::money::Money;
+use heap::Binary;
+use ordered_row::Chain;
+use refusal::Refusal;
 use site::run::Request;
 use site::site::Site;
-use std::io;
+use std::{fmt, io};
 
 #[derive(Clone, Copy)]
 pub struct Case<'a> {
     pub name: &'a str,
     pub request: Request,
-    pub expected: Gave,
+    pub expected: Result<u64, Refusal>,
 }
 
 // How many cases there were, and how many gave with both queues what they should.
@@ -48,48 +51,62 @@ pub fn across(bound: usize) -> Request
     }
 }
 
-fn show(rt: &HostRuntime, gave: Gave) -> io::Result<()> {
-    match gave {
-        Gave::Total(figure) => print!(rt; "{figure}"),
-        Gave::Refused(number) => print!(rt; "REFUSED {number}"),
+// What a plan gave, as it is printed.
+#[derive(Clone, Copy)]
+struct Shown(Result<u64, Refusal>);
+
+impl fmt::Display for Shown {
+    fn fmt<W: fmt::Write>(&self, f: &mut fmt::Formatter<W>) -> fmt::Result {
+        match self.0 {
+            Ok(figure) => write!(f, "{figure}"),
+            Err(refusal) => {
+                let number = refusal.code();
+                write!(f, "REFUSED {number}")
+            }
+        }
     }
 }
 
-// Prints what a case gave with each queue, and counts it.
-pub fn tell(
-    rt: &HostRuntime,
-    tally: &mut Tally,
-    case: Case,
-    heap: Gave,
-    row: Gave,
-) -> io::Result<()> {
-    let right = heap == case.expected && row == case.expected;
-    tally.count(right);
-    let name = case.name;
-    print!(rt; "{name}: heap ")?;
-    show(rt, heap)?;
-    print!(rt; ", ordered row ")?;
-    show(rt, row)?;
-    if right {
-        return println!(rt; "");
-    }
-    print!(rt; ", AND NOT ")?;
-    show(rt, case.expected)?;
-    println!(rt; "")
+// Plays cases, prints what each gave, and counts them.
+#[derive(Drop)]
+pub struct Cases<'a> {
+    pub rt: &'a HostRuntime,
+    pub tally: Tally,
 }
 
-// Plans for money with each queue: with a heap on rows that hold anything, and then with an ordered row on the rows as that
-// plan left them.
-pub fn play<S: Site<Charge = Money>>(
-    rt: &HostRuntime,
-    tally: &mut Tally,
-    case: Case,
-    site: &S,
-    rows: Rows,
-) -> anyhow::Result<()> {
-    let mut memory = Memory::new(rt.alloc(), rows)?;
-    let heap = of_money(with_heap(site, case.request, &mut memory));
-    let row = of_money(with_ordered_row(site, case.request, &mut memory));
-    tell(rt, tally, case, heap, row)?;
-    Ok(())
+impl Cases<'_> {
+    // Prints what a case gave with each queue, and counts it.
+    pub fn tell(
+        &mut self,
+        case: Case,
+        heap: Result<u64, Refusal>,
+        row: Result<u64, Refusal>,
+    ) -> io::Result<()> {
+        let right = heap == case.expected && row == case.expected;
+        self.tally.count(right);
+        let name = case.name;
+        let heap = Shown(heap);
+        let row = Shown(row);
+        print!(self.rt; "{name}: heap {heap}, ordered row {row}")?;
+        if right {
+            return println!(self.rt; "");
+        }
+        let expected = Shown(case.expected);
+        println!(self.rt; ", AND NOT {expected}")
+    }
+
+    // Plans for money with each queue: with a heap on rows that hold anything, and then with an ordered row on the rows as
+    // that plan left them.
+    pub fn play<S: Site<Charge = Money>>(
+        &mut self,
+        case: Case,
+        site: &S,
+        rows: Rows,
+    ) -> anyhow::Result<()> {
+        let mut memory = Memory::new(self.rt.alloc(), rows)?;
+        let heap = of_money(with_queue::<S, Binary>(site, case.request, &mut memory));
+        let row = of_money(with_queue::<S, Chain>(site, case.request, &mut memory));
+        self.tell(case, heap, row)?;
+        Ok(())
+    }
 }

@@ -1,4 +1,4 @@
-// What a plan gave, in figures.
+// What a plan gave, in figures: the cents or the grade of a total, or the refusal.
 ghost use Rattle.std.specs.Prelude.{◌≡◌};
 ghost use Rattle.house.specs.Gave.{money_gave, grade_gave};
 
@@ -7,30 +7,16 @@ use charge::money::Money;
 use planner::planned::Planned;
 use refusal::Refusal;
 
-#[derive(Clone, Copy, PartialEq, Eq)]
-pub enum Gave {
-    // a run with this total: cents, or a grade
-    Total(u64),
-    // a refusal with this number
-    Refused(u8),
-}
-
-// The cents of a total, or the number of a refusal.
-pub fn of_money(planned: Result<Planned<Money>, Refusal>) -> Gave
+// The cents of a total.
+pub fn of_money(planned: Result<Planned<Money>, Refusal>) -> Result<u64, Refusal>
     ensures { result ≡ money_gave planned }
 {
-    match planned {
-        Ok(planned) => Gave::Total(planned.total.counted()),
-        Err(refusal) => Gave::Refused(refusal.code()),
-    }
+    planned.map(|planned| planned.total.counted())
 }
 
-// The grade of a total, or the number of a refusal.
-pub fn of_disturbance(planned: Result<Planned<Disturbance>, Refusal>) -> Gave
+// The grade of a total.
+pub fn of_disturbance(planned: Result<Planned<Disturbance>, Refusal>) -> Result<u64, Refusal>
     ensures { result ≡ grade_gave planned }
 {
-    match planned {
-        Ok(planned) => Gave::Total(planned.total.grade as u64),
-        Err(refusal) => Gave::Refused(refusal.code()),
-    }
+    planned.map(|planned| u64::from(planned.total.grade))
 }

@@ -2,7 +2,7 @@
 // where that is not what it should be, what it should have given.
 #![tactic(auto)]
 
-use crate::case::Tally;
+use crate::case::{Cases, Tally};
 
 mod case;
 mod floor;
@@ -14,21 +14,21 @@ mod plain;
 mod rows;
 
 fn run(rt: &HostRuntime) -> anyhow::Result<()> {
-    let mut tally = Tally { cases: 0, right: 0 };
-    plain::bounds(rt, &mut tally)?;
-    plain::nowhere(rt, &mut tally)?;
-    plain::repeaters(rt, &mut tally)?;
-    plain::disturbance(rt, &mut tally)?;
-    rows::few_rows(rt, &mut tally)?;
-    rows::used_rows(rt, &mut tally)?;
-    jobs::closing(rt, &mut tally)?;
-    jobs::closing_twice(rt, &mut tally)?;
-    floor::on_two_jobs(rt, &mut tally)?;
-    floor::on_one_job(rt, &mut tally)?;
-    floor::corner_to_corner(rt, &mut tally)?;
-    let cases = tally.cases;
-    let right = tally.right;
-    println!(rt; "{cases} cases, each with both queues: {right} as expected")?;
+    let tally = Tally { cases: 0, right: 0 };
+    let mut cases = Cases { rt, tally };
+    plain::bounds(&mut cases)?;
+    plain::nowhere(&mut cases)?;
+    plain::repeaters(&mut cases)?;
+    plain::disturbance(&mut cases)?;
+    rows::few_rows(&mut cases)?;
+    rows::used_rows(&mut cases)?;
+    jobs::closing(&mut cases)?;
+    jobs::closing_twice(&mut cases)?;
+    floor::on_two_jobs(&mut cases)?;
+    floor::on_one_job(&mut cases)?;
+    floor::corner_to_corner(&mut cases)?;
+    let Tally { cases: many, right } = cases.tally;
+    println!(rt; "{many} cases, each with both queues: {right} as expected")?;
     Ok(())
 }
 

@@ -1,17 +1,17 @@
-// The working memory of plans, and plans with either queue over it.
+// The working memory of plans, and plans with the queue of any layout over it.
 ghost use Rattle.std.specs.Prelude.{◌≡◌, ℕ, IfOk, vec_len};
 ghost use Rattle.site.specs.Whole.{kind_of};
 ghost use Rattle.house.specs.Plans.{Answers};
 
 use charge::kind::Charge;
-use heap::Heap;
-use ordered_row::OrderedRow;
 use planner::plan::plan;
 use planner::planned::Planned;
 use refusal::Refusal;
 use search::cell::{Cell, Link, Reached, Row};
 use site::run::{Request, Step};
 use site::site::Site;
+use slots::layout::Leave;
+use slots::lent::LentQueue;
 use slots::slot::Slot;
 use std::alloc::{AllocError, Global};
 
@@ -76,15 +76,15 @@ impl<C: Charge + Clone> Memory<C> {
     }
 }
 
-// Plans with a heap.
-pub fn with_heap<S: Site>(
+// Plans with the queue of a layout.
+pub fn with_queue<S: Site, L: Leave>(
     site: &S,
     request: Request,
     memory: &mut Memory<S::Charge>,
 ) -> Result<Planned<S::Charge>, Refusal>
     ensures { Answers (kind_of S.Charge.Charge) (S.Site.meaning site.now) request result }
 {
-    let mut queue = Heap::over(memory.slots.as_mut_slice());
+    let mut queue = LentQueue::<S::Charge, L>::over(memory.slots.as_mut_slice());
     plan(
         site,
         request,
@@ -94,26 +94,8 @@ pub fn with_heap<S: Site>(
     )
 }
 
-// Plans with an ordered row.
-pub fn with_ordered_row<S: Site>(
-    site: &S,
-    request: Request,
-    memory: &mut Memory<S::Charge>,
-) -> Result<Planned<S::Charge>, Refusal>
-    ensures { Answers (kind_of S.Charge.Charge) (S.Site.meaning site.now) request result }
-{
-    let mut queue = OrderedRow::over(memory.slots.as_mut_slice());
-    plan(
-        site,
-        request,
-        memory.cells.as_mut_slice(),
-        &mut queue,
-        memory.run.as_mut_slice(),
-    )
-}
-
-// Plans for one request and then for another, with the same heap as the first plan left it; what the second gave.
-pub fn again_with_heap<S: Site>(
+// Plans for one request and then for another, with the same queue as the first plan left it; what the second gave.
+pub fn again_with_queue<S: Site, L: Leave>(
     site: &S,
     first: Request,
     request: Request,
@@ -121,23 +103,7 @@ pub fn again_with_heap<S: Site>(
 ) -> Result<Planned<S::Charge>, Refusal>
     ensures { Answers (kind_of S.Charge.Charge) (S.Site.meaning site.now) request result }
 {
-    let mut queue = Heap::over(memory.slots.as_mut_slice());
-    let cells = memory.cells.as_mut_slice();
-    let run = memory.run.as_mut_slice();
-    let _ = plan(site, first, &mut *cells, &mut queue, &mut *run);
-    plan(site, request, &mut *cells, &mut queue, &mut *run)
-}
-
-// Plans for one request and then for another, with the same ordered row as the first plan left it; what the second gave.
-pub fn again_with_ordered_row<S: Site>(
-    site: &S,
-    first: Request,
-    request: Request,
-    memory: &mut Memory<S::Charge>,
-) -> Result<Planned<S::Charge>, Refusal>
-    ensures { Answers (kind_of S.Charge.Charge) (S.Site.meaning site.now) request result }
-{
-    let mut queue = OrderedRow::over(memory.slots.as_mut_slice());
+    let mut queue = LentQueue::<S::Charge, L>::over(memory.slots.as_mut_slice());
     let cells = memory.cells.as_mut_slice();
     let run = memory.run.as_mut_slice();
     let _ = plan(site, first, &mut *cells, &mut queue, &mut *run);

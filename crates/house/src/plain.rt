@@ -1,52 +1,53 @@
 // Plans on the house with all ways open.
-use crate::case::{Case, Tally, across, play, tell};
+use crate::case::{Case, Cases, across};
 use crate::four_places::house;
-use crate::gave::{Gave, of_disturbance};
-use crate::memory::{Memory, each, with_heap, with_ordered_row};
-use charge::disturbance::Disturbance;
+use crate::gave::of_disturbance;
+use crate::memory::{Memory, each, with_queue};
+use heap::Binary;
+use ordered_row::Chain;
+use refusal::Refusal;
 use site::run::Request;
 use views::disturbance::DisturbanceView;
 use views::money::MoneyView;
 
 // A run across the house within a bound, with a price of a repeater at the place 1, or none.
 fn at_bound(
-    rt: &HostRuntime,
-    tally: &mut Tally,
+    cases: &mut Cases,
     name: &str,
     repeater: Option<u32>,
     bound: usize,
-    expected: Gave,
+    expected: Result<u64, Refusal>,
 ) -> anyhow::Result<()> {
     let case = Case {
         name,
         request: across(bound),
         expected,
     };
-    let survey = house(rt.alloc(), repeater)?;
-    play(rt, tally, case, &MoneyView::over(&survey), each(180))
+    let survey = house(cases.rt.alloc(), repeater)?;
+    cases.play(case, &MoneyView::over(&survey), each(180))
 }
 
 // The lower the bound, the more repeaters are needed, until none helps.
-pub fn bounds(rt: &HostRuntime, tally: &mut Tally) -> anyhow::Result<()> {
+pub fn bounds(cases: &mut Cases) -> anyhow::Result<()> {
     let priced = Some(2000);
-    at_bound(rt, tally, "bound 44", priced, 44, Gave::Total(600))?;
-    at_bound(rt, tally, "bound 43", priced, 43, Gave::Total(1500))?;
-    at_bound(rt, tally, "bound 33", priced, 33, Gave::Total(1500))?;
-    at_bound(rt, tally, "bound 32", priced, 32, Gave::Total(2600))?;
-    at_bound(rt, tally, "bound 22", priced, 22, Gave::Total(2600))?;
-    at_bound(rt, tally, "bound 21", priced, 21, Gave::Refused(17))
+    at_bound(cases, "bound 44", priced, 44, Ok(600))?;
+    at_bound(cases, "bound 43", priced, 43, Ok(1500))?;
+    at_bound(cases, "bound 33", priced, 33, Ok(1500))?;
+    at_bound(cases, "bound 32", priced, 32, Ok(2600))?;
+    at_bound(cases, "bound 22", priced, 22, Ok(2600))?;
+    at_bound(cases, "bound 21", priced, 21, Err(Refusal::NoRun))
 }
 
 // A blank at the place 1, where no repeater can stand, and a price of 0, where one stands for nothing.
-pub fn repeaters(rt: &HostRuntime, tally: &mut Tally) -> anyhow::Result<()> {
+pub fn repeaters(cases: &mut Cases) -> anyhow::Result<()> {
     let blank = "place 1 blank, bound 32";
-    at_bound(rt, tally, blank, None, 32, Gave::Refused(17))?;
+    at_bound(cases, blank, None, 32, Err(Refusal::NoRun))?;
     let free = "place 1 priced 0, bound 35";
-    at_bound(rt, tally, free, Some(0), 35, Gave::Total(600))
+    at_bound(cases, free, Some(0), 35, Ok(600))
 }
 
 // From a place to itself it is no step, for nothing.
-pub fn nowhere(rt: &HostRuntime, tally: &mut Tally) -> anyhow::Result<()> {
+pub fn nowhere(cases: &mut Cases) -> anyhow::Result<()> {
     let case = Case {
         name: "from 0 to 0",
         request: Request {
@@ -54,24 +55,24 @@ pub fn nowhere(rt: &HostRuntime, tally: &mut Tally) -> anyhow::Result<()> {
             end: 0,
             bound: 35,
         },
-        expected: Gave::Total(0),
+        expected: Ok(0),
     };
-    let survey = house(rt.alloc(), Some(2000))?;
-    play(rt, tally, case, &MoneyView::over(&survey), each(144))
+    let survey = house(cases.rt.alloc(), Some(2000))?;
+    cases.play(case, &MoneyView::over(&survey), each(144))
 }
 
 // The disturbance of a run is its greatest grade.
-pub fn disturbance(rt: &HostRuntime, tally: &mut Tally) -> anyhow::Result<()> {
+pub fn disturbance(cases: &mut Cases) -> anyhow::Result<()> {
     let case = Case {
         name: "disturbance, bound 35",
         request: across(35),
-        expected: Gave::Total(1),
+        expected: Ok(1),
     };
-    let survey = house(rt.alloc(), Some(2000))?;
+    let survey = house(cases.rt.alloc(), Some(2000))?;
     let site = DisturbanceView::over(&survey);
-    let mut memory = Memory::new(rt.alloc(), each(144))?;
-    let heap = of_disturbance(with_heap(&site, case.request, &mut memory));
-    let row = of_disturbance(with_ordered_row(&site, case.request, &mut memory));
-    tell(rt, tally, case, heap, row)?;
+    let mut memory = Memory::new(cases.rt.alloc(), each(144))?;
+    let heap = of_disturbance(with_queue::<_, Binary>(&site, case.request, &mut memory));
+    let row = of_disturbance(with_queue::<_, Chain>(&site, case.request, &mut memory));
+    cases.tell(case, heap, row)?;
     Ok(())
 }

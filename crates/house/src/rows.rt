@@ -1,20 +1,22 @@
 // How many rows a plan needs, and rows and a queue that a plan before has left.
-use crate::case::{Case, Tally, across, play, tell};
+use crate::case::{Case, Cases, across};
 use crate::four_places::house;
-use crate::gave::{Gave, of_money};
-use crate::memory::{Memory, Rows, again_with_heap, again_with_ordered_row, each};
+use crate::gave::of_money;
+use crate::memory::{Memory, Rows, again_with_queue, each};
+use heap::Binary;
+use ordered_row::Chain;
+use refusal::Refusal;
 use views::money::MoneyView;
 
 // A plan within 35 with so many rows of each sort.
 fn with_rows(
-    rt: &HostRuntime,
-    tally: &mut Tally,
+    cases: &mut Cases,
     cells: usize,
     slots: usize,
     steps: usize,
-    expected: Gave,
+    expected: Result<u64, Refusal>,
 ) -> anyhow::Result<()> {
-    let name = format!(in rt.alloc();
+    let name = format!(in cases.rt.alloc();
         "bound 35 with {cells} cell rows, {slots} queue rows and {steps} run rows"
     )?;
     let case = Case {
@@ -22,36 +24,41 @@ fn with_rows(
         request: across(35),
         expected,
     };
-    let survey = house(rt.alloc(), Some(2000))?;
+    let survey = house(cases.rt.alloc(), Some(2000))?;
     let rows = Rows {
         cells,
         slots,
         steps,
     };
-    play(rt, tally, case, &MoneyView::over(&survey), rows)
+    cases.play(case, &MoneyView::over(&survey), rows)
 }
 
 // Four places with the losses 0 to 35 take 144 rows of each sort.
-pub fn few_rows(rt: &HostRuntime, tally: &mut Tally) -> anyhow::Result<()> {
-    with_rows(rt, tally, 144, 144, 144, Gave::Total(1500))?;
-    with_rows(rt, tally, 143, 144, 144, Gave::Refused(16))?;
-    with_rows(rt, tally, 144, 143, 144, Gave::Refused(16))?;
-    with_rows(rt, tally, 144, 144, 143, Gave::Refused(16))?;
-    with_rows(rt, tally, 143, 143, 143, Gave::Refused(16))
+pub fn few_rows(cases: &mut Cases) -> anyhow::Result<()> {
+    with_rows(cases, 144, 144, 144, Ok(1500))?;
+    with_rows(cases, 143, 144, 144, Err(Refusal::TooFewRows))?;
+    with_rows(cases, 144, 143, 144, Err(Refusal::TooFewRows))?;
+    with_rows(cases, 144, 144, 143, Err(Refusal::TooFewRows))?;
+    with_rows(cases, 143, 143, 143, Err(Refusal::TooFewRows))
 }
 
 // A plan within 44 and then one within 33, on the rows and the queue that the first has left.
-pub fn used_rows(rt: &HostRuntime, tally: &mut Tally) -> anyhow::Result<()> {
-    let survey = house(rt.alloc(), Some(2000))?;
+pub fn used_rows(cases: &mut Cases) -> anyhow::Result<()> {
+    let survey = house(cases.rt.alloc(), Some(2000))?;
     let site = MoneyView::over(&survey);
-    let mut memory = Memory::new(rt.alloc(), each(180))?;
+    let mut memory = Memory::new(cases.rt.alloc(), each(180))?;
     let case = Case {
         name: "bound 33 on the rows and the queue that bound 44 has left",
         request: across(33),
-        expected: Gave::Total(1500),
+        expected: Ok(1500),
     };
-    let heap = of_money(again_with_heap(&site, across(44), case.request, &mut memory));
-    let row = of_money(again_with_ordered_row(&site, across(44), case.request, &mut memory));
-    tell(rt, tally, case, heap, row)?;
+    let heap = of_money(again_with_queue::<_, Binary>(
+        &site,
+        across(44),
+        case.request,
+        &mut memory,
+    ));
+    let row = of_money(again_with_queue::<_, Chain>(&site, across(44), case.request, &mut memory));
+    cases.tell(case, heap, row)?;
     Ok(())
 }

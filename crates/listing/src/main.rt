@@ -17,7 +17,6 @@ use charge::disturbance::Disturbance;
 use charge::money::Money;
 use job::job::Job;
 use site::site::Site;
-use survey::sealed::Sealed;
 use views::disturbance::DisturbanceView;
 use views::money::MoneyView;
 
@@ -43,50 +42,22 @@ fn count(tally: &mut Tally, listed: Option<u64>, planned: [Option<u64>; 2]) {
     }
 }
 
-// Plans for money over a job with some ways closed.
-fn money(
+// Plans over a job with some ways closed: the figure of the total with the heap, and of that with the ordered row.
+fn planned<S: Site + Drop, F: Fn(S::Charge) -> u64>(
     rt: &HostRuntime,
-    survey: &Sealed,
+    site: S,
     asked: &Question,
-    memory: &mut Memory<Money>,
-) -> anyhow::Result<[Option<u64>; 2]> {
-    let mut work = Job::new(rt.alloc(), MoneyView::over(survey))?;
+    memory: &mut Memory<S::Charge>,
+    figure: F,
+) -> anyhow::Result<[Option<u64>; 2]>
+    requires { F.IsAlwaysCallable figure }
+{
+    let mut work = Job::new(rt.alloc(), site)?;
     for way in asked.closed {
         let _ = work.close(way);
     }
-    let (first, second) = plan_both(&work, asked.request, memory);
-    let heap = match first {
-        Some(total) => Some(total.counted()),
-        None => None,
-    };
-    let row = match second {
-        Some(total) => Some(total.counted()),
-        None => None,
-    };
-    Ok([heap, row])
-}
-
-// Plans for disturbance over a job with some ways closed.
-fn disturbance(
-    rt: &HostRuntime,
-    survey: &Sealed,
-    asked: &Question,
-    memory: &mut Memory<Disturbance>,
-) -> anyhow::Result<[Option<u64>; 2]> {
-    let mut work = Job::new(rt.alloc(), DisturbanceView::over(survey))?;
-    for way in asked.closed {
-        let _ = work.close(way);
-    }
-    let (first, second) = plan_both(&work, asked.request, memory);
-    let heap = match first {
-        Some(total) => Some(total.grade as u64),
-        None => None,
-    };
-    let row = match second {
-        Some(total) => Some(total.grade as u64),
-        None => None,
-    };
-    Ok([heap, row])
+    let (heap, row) = plan_both(&work, asked.request, memory);
+    Ok([heap.map(&figure), row.map(&figure)])
 }
 
 fn main(rt: HostRuntime) -> anyhow::Result<()> {
@@ -112,12 +83,24 @@ fn main(rt: HostRuntime) -> anyhow::Result<()> {
         count(
             &mut tally,
             found.money,
-            money(&rt, &survey, &asked, &mut for_money)?,
+            planned(
+                &rt,
+                MoneyView::over(&survey),
+                &asked,
+                &mut for_money,
+                |total: Money| total.counted(),
+            )?,
         );
         count(
             &mut tally,
             found.grade,
-            disturbance(&rt, &survey, &asked, &mut for_grade)?,
+            planned(
+                &rt,
+                DisturbanceView::over(&survey),
+                &asked,
+                &mut for_grade,
+                |total: Disturbance| u64::from(total.grade),
+            )?,
         );
     }
     let houses = tally.houses;

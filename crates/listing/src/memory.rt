@@ -1,11 +1,13 @@
 // Working memory that serves one plan after another, as the plan before left it.
 use charge::kind::Charge;
-use heap::Heap;
-use ordered_row::OrderedRow;
+use heap::Binary;
+use ordered_row::Chain;
 use planner::plan::plan;
 use search::cell::{Cell, Link, Reached, Row};
 use site::run::{Request, Step};
 use site::site::Site;
+use slots::layout::Leave;
+use slots::lent::LentQueue;
 use slots::slot::Slot;
 use std::alloc::{AllocError, Global};
 
@@ -49,40 +51,22 @@ impl<C: Charge + Clone> Memory<C> {
     }
 }
 
-fn with_heap<S: Site>(
+// The total with the queue of a layout; none where the request is refused.
+fn with_queue<S: Site, L: Leave>(
     site: &S,
     request: Request,
     memory: &mut Memory<S::Charge>,
 ) -> Option<S::Charge> {
-    let mut queue = Heap::over(memory.slots.as_mut_slice());
-    match plan(
+    let mut queue = LentQueue::<S::Charge, L>::over(memory.slots.as_mut_slice());
+    plan(
         site,
         request,
         memory.cells.as_mut_slice(),
         &mut queue,
         memory.run.as_mut_slice(),
-    ) {
-        Ok(planned) => Some(planned.total),
-        Err(_) => None,
-    }
-}
-
-fn with_row<S: Site>(
-    site: &S,
-    request: Request,
-    memory: &mut Memory<S::Charge>,
-) -> Option<S::Charge> {
-    let mut queue = OrderedRow::over(memory.slots.as_mut_slice());
-    match plan(
-        site,
-        request,
-        memory.cells.as_mut_slice(),
-        &mut queue,
-        memory.run.as_mut_slice(),
-    ) {
-        Ok(planned) => Some(planned.total),
-        Err(_) => None,
-    }
+    )
+    .map(|planned| planned.total)
+    .ok()
 }
 
 // The total with the heap, and the total with the ordered row.
@@ -91,7 +75,7 @@ pub fn plan_both<S: Site>(
     request: Request,
     memory: &mut Memory<S::Charge>,
 ) -> (Option<S::Charge>, Option<S::Charge>) {
-    let first = with_heap(site, request, memory);
-    let second = with_row(site, request, memory);
-    (first, second)
+    let heap = with_queue::<S, Binary>(site, request, memory);
+    let row = with_queue::<S, Chain>(site, request, memory);
+    (heap, row)
 }

@@ -2,10 +2,11 @@
 // charge kind. The highest charge stands first and a lowest one last, so that to take one is a single step.
 #![tactic(auto)]
 
-ghost use Rattle.std.specs.Prelude.{◌≡◌, ◌-◌, ◌<◌, true, length, MatchOption};
+ghost use Rattle.std.specs.Prelude.{◌≡◌, ◌-◌, ◌<◌, true, MatchOption};
 ghost use Rattle.queue.specs.Waits.{Taken};
 ghost use Rattle.slots.specs.Order.{ranked};
-ghost use Rattle.slots.specs.Waiting.{waiting, RowOrder};
+ghost use Rattle.slots.specs.Queues.{many_rows, what_waits, InRowOrder};
+ghost use Rattle.slots.specs.Waiting.{waiting};
 ghost use Rattle.ordered_row.specs.Chain.{before, next};
 ghost use Rattle.std.proofs.Common.{rules};
 
@@ -30,15 +31,11 @@ impl Layout for Chain {
     ghost tree = { Prim.search rules };
 
     fn parent(i: usize) -> usize {
-        if i == 0 { 0 } else { i - 1 }
+        i.saturating_sub(1)
     }
 
     fn child(i: usize, len: usize) -> Option<usize> {
-        if i < len && i + 1 < len {
-            Some(i + 1)
-        } else {
-            None
-        }
+        i.checked_add(1).filter(|next| *next < len)
     }
 
     fn may_top<C: Charge>(a: &C, b: &C) -> bool {
@@ -49,8 +46,8 @@ impl Layout for Chain {
 // The cell at the last position that waits, with its charge; none where no cell waits. With one position less, in rows
 // as they are, it waits no more.
 fn last<C: Charge>(queue: &LentQueue<'_, C, Chain>) -> Option<(usize, C)>
-    requires { RowOrder before (ranked true C.Charge.within) (length queue.now.rows.now) queue.now.rows.now queue.now.len }
-    ensures { MatchOption result (queue.now.len ≡ 0) (λ p. (0 < queue.now.len) × (p.0 < length queue.now.rows.now) × Taken C.Charge.within (waiting queue.now.rows.now queue.now.len) (waiting queue.now.rows.now (queue.now.len - 1)) p.0 p.1) }
+    requires { InRowOrder before (ranked true C.Charge.within) queue.now }
+    ensures { MatchOption result (queue.now.len ≡ 0) (λ p. (0 < queue.now.len) × (p.0 < many_rows queue.now) × Taken C.Charge.within (what_waits queue.now) (waiting queue.now.rows.now (queue.now.len - 1)) p.0 p.1) }
 {
     if queue.len == 0 {
         return None;

@@ -1,14 +1,19 @@
 // The heap for money behind a C interface, to be timed against another heap: on charges and answers of the caller.
 #![tactic(auto)]
 
-ghost use Rattle.std.specs.Prelude.{◌≡◌, IfOk, vec_len};
-
 use charge::kind::Charge;
 use charge::money::Money;
 use heap::Heap;
 use queue::queue::PriorityQueue;
 use slots::slot::Slot;
-use std::alloc::{AllocError, Global};
+use std::alloc::Global;
+
+// a row that holds whatever was there before
+const USED: Slot<Money> = Slot {
+    charge: Money { cents: 1 },
+    cell: 7,
+    position: 3,
+};
 
 // Each cell is put with its charge.
 fn put_all<Q: PriorityQueue<Charge = Money>>(queue: &mut Q, charges: &[u64])
@@ -43,25 +48,10 @@ fn churn<Q: PriorityQueue<Charge = Money>>(queue: &mut Q, steps: &[u64], taken: 
     }
 }
 
-// Rows for so many cells, which hold anything.
-fn used_rows(memory: Global, many: usize) -> Result<Vec<Slot<Money>>, AllocError>
-    ensures { IfOk result (λ v. vec_len v ≡ many) }
-{
-    Vec::from_elem(
-        memory,
-        Slot {
-            charge: Money { cents: 1 },
-            cell: 7,
-            position: 3,
-        },
-        many,
-    )
-}
-
 // Puts every charge, then takes them in order. False where there is no memory for the rows.
 #[unsafe(no_mangle)]
 pub extern "C" fn heap_fill_and_drain(memory: Global, charges: &[u64], taken: &mut [u64]) -> bool {
-    let Ok(mut rows) = used_rows(memory, charges.len()) else {
+    let Ok(mut rows) = vec![in memory; USED; charges.len()] else {
         return false;
     };
     let mut heap = Heap::over(rows.as_mut_slice());
@@ -78,7 +68,7 @@ pub extern "C" fn heap_churn(
     steps: &[u64],
     taken: &mut [u64],
 ) -> bool {
-    let Ok(mut rows) = used_rows(memory, charges.len()) else {
+    let Ok(mut rows) = vec![in memory; USED; charges.len()] else {
         return false;
     };
     let mut heap = Heap::over(rows.as_mut_slice());

@@ -8,8 +8,14 @@ use heap::Heap;
 use ordered_row::OrderedRow;
 use queue::queue::PriorityQueue;
 use slots::slot::Slot;
-use std::alloc::{AllocError, Global};
 use std::{fmt, io};
+
+// a row that holds whatever was there before
+const USED: Slot<Money> = Slot {
+    charge: Money { cents: 1 },
+    cell: 7,
+    position: 3,
+};
 
 // to how many calls both queues answered alike, and to how many not
 #[derive(Clone, Copy)]
@@ -96,22 +102,13 @@ impl Player<'_> {
 
     // A block of lines that begins with the number of rows.
     fn play_block(&mut self, many: usize, lines: &[Line]) -> anyhow::Result<()> {
-        let mut heap_rows = used_rows(self.rt.alloc(), many)?;
-        let mut ordered_rows = used_rows(self.rt.alloc(), many)?;
+        let mut heap_rows = vec![in self.rt.alloc(); USED; many]?;
+        let mut ordered_rows = vec![in self.rt.alloc(); USED; many]?;
         let mut heap = Heap::over(heap_rows.as_mut_slice());
         let mut row = OrderedRow::over(ordered_rows.as_mut_slice());
         self.play_all(&mut heap, &mut row, lines)?;
         Ok(())
     }
-}
-
-// Rows that hold whatever was there before.
-fn used_rows(heap: Global, many: usize) -> Result<Vec<Slot<Money>>, AllocError> {
-    vec![in heap; Slot {
-        charge: Money { cents: 1 },
-        cell: 7,
-        position: 3
-    }; many]
 }
 
 // All lines, block by block.

@@ -1,3 +1,4 @@
 pub mod Rows
 pub mod Order
 pub mod Waiting
+pub mod Queues

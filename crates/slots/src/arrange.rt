@@ -3,15 +3,15 @@ ghost use Rattle.std.specs.Prelude.{◌≡◌, ◌-◌, ◌<◌, ◌≤◌, leng
 ghost use Rattle.queue.specs.Waits.{Put, Taken};
 ghost use Rattle.slots.specs.Rows.{charges, cells, positions};
 ghost use Rattle.slots.specs.Order.{Placed, ranked};
-ghost use Rattle.slots.specs.Waiting.{waiting, RowOrder};
+ghost use Rattle.slots.specs.Queues.{many_rows, what_waits, InRowOrder};
 
 use crate::layout::Layout;
 use crate::lent::LentQueue;
 use crate::slot::Slot;
 use charge::kind::Charge;
 
-#[tactic(auto, using(crate::proofs::Entry::settled))]
 // Each cell goes to the position of its own number, whatever the rows held; the charges stay.
+#[tactic(auto, using(crate::proofs::Entry::settled))]
 pub fn set_out<C: Charge>(rows: &mut [Slot<C>])
     ensures charges { charges rows.new ≡ charges rows.old }
     ensures placed { Placed (length rows.old) (cells rows.new) (positions rows.new) }
@@ -23,10 +23,10 @@ pub fn set_out<C: Charge>(rows: &mut [Slot<C>])
 }
 
 impl<C: Charge, L: Layout> LentQueue<'_, C, L> {
-    #[tactic(auto, using(crate::proofs::Columns::reads))]
     // The cell that stands at a position, with its charge; none where there is no such position.
+    #[tactic(auto, using(crate::proofs::Columns::reads))]
     pub fn standing(&self, position: usize) -> Option<(usize, C)>
-        ensures { MatchOption result (length self.now.rows.now ≤ position) (λ p. (position < length self.now.rows.now) × (p.0 ≡ slice_index (cells self.now.rows.now) position) × ((d : C) → p.1 ≡ slice_index_or (charges self.now.rows.now) p.0 d)) }
+        ensures { MatchOption result (many_rows self.now ≤ position) (λ p. (position < many_rows self.now) × (p.0 ≡ slice_index (cells self.now.rows.now) position) × ((d : C) → p.1 ≡ slice_index_or (charges self.now.rows.now) p.0 d)) }
     {
         if position >= self.rows.len() {
             return None;
@@ -35,10 +35,10 @@ impl<C: Charge, L: Layout> LentQueue<'_, C, L> {
         Some((cell, self.rows[cell].charge))
     }
 
-    #[tactic(auto, using(crate::proofs::Columns::columns))]
     // `cell` has another charge, and stands where it stood.
+    #[tactic(auto, using(crate::proofs::Columns::columns))]
     fn set_charge(&mut self, cell: usize, charge: C)
-        requires { cell < length self.old.rows.now }
+        requires { cell < many_rows self.old }
         ensures len { self.new.len ≡ self.old.len }
         ensures charges { charges self.new.rows.now ≡ slice_set (charges self.old.rows.now) cell charge }
         ensures cells { cells self.new.rows.now ≡ cells self.old.rows.now }
@@ -49,12 +49,12 @@ impl<C: Charge, L: Layout> LentQueue<'_, C, L> {
 
     // `cell`, which does not wait, waits with `charge`: it goes to the position behind those that wait, and up from there.
     pub(crate) fn enter(&mut self, cell: usize, charge: C)
-        requires order { RowOrder L.Layout.up (ranked L.Layout.turned C.Charge.within) (length self.old.rows.now) self.old.rows.now self.old.len }
-        requires within { cell < length self.old.rows.now }
+        requires order { InRowOrder L.Layout.up (ranked L.Layout.turned C.Charge.within) self.old }
+        requires within { cell < many_rows self.old }
         requires apart { self.old.len ≤ slice_index (positions self.old.rows.now) cell }
-        ensures many { length self.new.rows.now ≡ length self.old.rows.now }
-        ensures order { RowOrder L.Layout.up (ranked L.Layout.turned C.Charge.within) (length self.new.rows.now) self.new.rows.now self.new.len }
-        ensures put { Put (waiting self.old.rows.now self.old.len) (waiting self.new.rows.now self.new.len) cell charge }
+        ensures many { many_rows self.new ≡ many_rows self.old }
+        ensures order { InRowOrder L.Layout.up (ranked L.Layout.turned C.Charge.within) self.new }
+        ensures put { Put (what_waits self.old) (what_waits self.new) cell charge }
     {
         let at = self.rows[cell].position;
         let last = self.len;
@@ -66,12 +66,12 @@ impl<C: Charge, L: Layout> LentQueue<'_, C, L> {
 
     // `cell`, which waits, is charged anew, and goes up or down.
     pub(crate) fn recharge(&mut self, cell: usize, charge: C)
-        requires order { RowOrder L.Layout.up (ranked L.Layout.turned C.Charge.within) (length self.old.rows.now) self.old.rows.now self.old.len }
-        requires within { cell < length self.old.rows.now }
+        requires order { InRowOrder L.Layout.up (ranked L.Layout.turned C.Charge.within) self.old }
+        requires within { cell < many_rows self.old }
         requires waits { slice_index (positions self.old.rows.now) cell < self.old.len }
-        ensures many { length self.new.rows.now ≡ length self.old.rows.now }
-        ensures order { RowOrder L.Layout.up (ranked L.Layout.turned C.Charge.within) (length self.new.rows.now) self.new.rows.now self.new.len }
-        ensures put { Put (waiting self.old.rows.now self.old.len) (waiting self.new.rows.now self.new.len) cell charge }
+        ensures many { many_rows self.new ≡ many_rows self.old }
+        ensures order { InRowOrder L.Layout.up (ranked L.Layout.turned C.Charge.within) self.new }
+        ensures put { Put (what_waits self.old) (what_waits self.new) cell charge }
     {
         let old = self.rows[cell].charge;
         let at = self.rows[cell].position;
@@ -83,13 +83,13 @@ impl<C: Charge, L: Layout> LentQueue<'_, C, L> {
         }
     }
 
-    #[tactic(auto, using(crate::proofs::Columns::stands))]
     // The cell at the top, with its charge, leaves; none where no cell waits.
+    #[tactic(auto, using(crate::proofs::Columns::stands))]
     pub fn take_top(&mut self) -> Option<(usize, C)>
-        requires { RowOrder L.Layout.up (ranked L.Layout.turned C.Charge.within) (length self.old.rows.now) self.old.rows.now self.old.len }
-        ensures many { length self.new.rows.now ≡ length self.old.rows.now }
-        ensures order { RowOrder L.Layout.up (ranked L.Layout.turned C.Charge.within) (length self.new.rows.now) self.new.rows.now self.new.len }
-        ensures answer { MatchOption result ((self.old.len ≡ 0) × (self.new ≡ self.old)) (λ p. (0 < self.old.len) × (self.new.len ≡ self.old.len - 1) × (p.0 < length self.old.rows.now) × Taken (ranked L.Layout.turned C.Charge.within) (waiting self.old.rows.now self.old.len) (waiting self.new.rows.now self.new.len) p.0 p.1) }
+        requires { InRowOrder L.Layout.up (ranked L.Layout.turned C.Charge.within) self.old }
+        ensures many { many_rows self.new ≡ many_rows self.old }
+        ensures order { InRowOrder L.Layout.up (ranked L.Layout.turned C.Charge.within) self.new }
+        ensures answer { MatchOption result ((self.old.len ≡ 0) × (self.new ≡ self.old)) (λ p. (0 < self.old.len) × (self.new.len ≡ self.old.len - 1) × (p.0 < many_rows self.old) × Taken (ranked L.Layout.turned C.Charge.within) (what_waits self.old) (what_waits self.new) p.0 p.1) }
     {
         if self.len == 0 {
             return None;

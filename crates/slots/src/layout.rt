@@ -1,7 +1,7 @@
-ghost use Rattle.std.specs.Prelude.{◌≡◌, ℕ, ◌<◌, ◌≤◌, Bool, MatchOption, None, length};
+ghost use Rattle.std.specs.Prelude.{◌≡◌, ℕ, ◌<◌, ◌≤◌, Bool, MatchOption, None};
 ghost use Rattle.queue.specs.Waits.{Taken};
 ghost use Rattle.slots.specs.Order.{Tree, ranked};
-ghost use Rattle.slots.specs.Waiting.{waiting, RowOrder};
+ghost use Rattle.slots.specs.Queues.{many_rows, what_waits, InRowOrder};
 
 use crate::lent::LentQueue;
 use charge::kind::Charge;
@@ -33,12 +33,13 @@ pub trait Layout {
     ghost tree: { Tree up down };
 }
 
-// Which cell leaves a queue of a layout first.
+// Which cell leaves a queue of a layout first. It stands apart from Layout, since to take one is to call what works over
+// any layout.
 pub trait Leave: Layout {
     // A waiting cell leaves with its charge, than which no waiting charge is lower; none where no cell waits.
     fn take<C: Charge>(queue: &mut LentQueue<'_, C, Self>) -> Option<(usize, C)>
-        requires { RowOrder Self.up (ranked Self.turned C.Charge.within) (length queue.old.rows.now) queue.old.rows.now queue.old.len }
-        ensures many { length queue.new.rows.now ≡ length queue.old.rows.now }
-        ensures ordered { RowOrder Self.up (ranked Self.turned C.Charge.within) (length queue.new.rows.now) queue.new.rows.now queue.new.len }
-        ensures answer { MatchOption result (((k : ℕ) → waiting queue.old.rows.now queue.old.len k ≡ None) × (queue.new ≡ queue.old)) (λ p. (p.0 < length queue.old.rows.now) × Taken C.Charge.within (waiting queue.old.rows.now queue.old.len) (waiting queue.new.rows.now queue.new.len) p.0 p.1) };
+        requires { InRowOrder Self.up (ranked Self.turned C.Charge.within) queue.old }
+        ensures many { many_rows queue.new ≡ many_rows queue.old }
+        ensures ordered { InRowOrder Self.up (ranked Self.turned C.Charge.within) queue.new }
+        ensures answer { MatchOption result (((k : ℕ) → what_waits queue.old k ≡ None) × (queue.new ≡ queue.old)) (λ p. (p.0 < many_rows queue.old) × Taken C.Charge.within (what_waits queue.old) (what_waits queue.new) p.0 p.1) };
 }

@@ -1,7 +1,6 @@
 ghost use Rattle.std.specs.Prelude.{◌≡◌, ℕ, ◌≤◌, length, None};
 ghost use Rattle.slots.specs.Rows.{charges, cells, positions};
 ghost use Rattle.slots.specs.Order.{Placed, ranked};
-ghost use Rattle.slots.specs.Waiting.{waiting, RowOrder};
 
 use crate::arrange::set_out;
 use crate::layout::{Layout, Leave};
@@ -24,11 +23,13 @@ pub struct LentQueue<'a, C, L> {
 }
 
 impl<'a, C: Charge, L: Layout> LentQueue<'a, C, L> {
+    ghost use Rattle.slots.specs.Queues.{many_rows, what_waits, InRowOrder};
+
     // A queue in which no cell waits, whatever the rows held.
     pub fn over(rows: &'a mut [Slot<C>]) -> LentQueue<'a, C, L>
-        ensures ordered { RowOrder L.Layout.up (ranked L.Layout.turned C.Charge.within) (length result.rows.now) result.rows.now result.len }
-        ensures many { length result.rows.now ≡ length rows.old }
-        ensures empty { (k : ℕ) → waiting result.rows.now result.len k ≡ None }
+        ensures ordered { InRowOrder L.Layout.up (ranked L.Layout.turned C.Charge.within) result }
+        ensures many { many_rows result ≡ length rows.old }
+        ensures empty { (k : ℕ) → what_waits result k ≡ None }
     {
         set_out(rows);
         LentQueue {
@@ -40,13 +41,15 @@ impl<'a, C: Charge, L: Layout> LentQueue<'a, C, L> {
 }
 
 impl<C: Charge, L: Leave> PriorityQueue for LentQueue<'_, C, L> {
+    ghost use Rattle.slots.specs.Queues.{many_rows, what_waits, InRowOrder};
+
     type Charge = C;
 
-    ghost waits = { λ q. waiting q.rows.now q.len };
+    ghost waits = { what_waits };
 
-    ghost ordered = { λ q. RowOrder L.Layout.up (ranked L.Layout.turned C.Charge.within) (length q.rows.now) q.rows.now q.len };
+    ghost ordered = { InRowOrder L.Layout.up (ranked L.Layout.turned C.Charge.within) };
 
-    ghost many = { λ q. length q.rows.now };
+    ghost many = { many_rows };
 
     fn rows(&self) -> usize {
         self.rows.len()

@@ -1,6 +1,7 @@
 // A cell that stands too low or too high goes to its position, by exchanges along the tree.
 ghost use Rattle.std.specs.Prelude.{◌≡◌, ◌<◌, length, slice_index, slice_index_or, slice_set};
 ghost use Rattle.slots.specs.Rows.{charges, cells, positions};
+ghost use Rattle.slots.specs.Queues.{many_rows};
 ghost use Rattle.slots.specs.Order.{Ahead, SameWait, Exchanged, Arranged, Rising, Sinking, Foremost, ranked};
 
 use crate::layout::Layout;
@@ -8,8 +9,8 @@ use crate::lent::LentQueue;
 use crate::slot::Slot;
 use charge::kind::Charge;
 
-#[tactic(auto, using(crate::proofs::Columns::columns))]
 // The cell `cell` stands at the position `at`.
+#[tactic(auto, using(crate::proofs::Columns::columns))]
 fn stand<C: Charge>(rows: &mut [Slot<C>], cell: usize, at: usize)
     requires cell { cell < length rows.old }
     requires at { at < length rows.old }
@@ -22,11 +23,11 @@ fn stand<C: Charge>(rows: &mut [Slot<C>], cell: usize, at: usize)
 }
 
 impl<C: Charge, L: Layout> LentQueue<'_, C, L> {
-    #[tactic(auto, using(crate::proofs::Columns::stands))]
     // Whether what stands at the position `i` may stand above what stands at `j`.
+    #[tactic(auto, using(crate::proofs::Columns::stands))]
     fn ahead(&self, i: usize, j: usize) -> bool
-        requires i_within { i < length self.now.rows.now }
-        requires j_within { j < length self.now.rows.now }
+        requires i_within { i < many_rows self.now }
+        requires j_within { j < many_rows self.now }
         ensures { (d : C) → result ≡ ranked L.Layout.turned C.Charge.within (slice_index_or (charges self.now.rows.now) (slice_index (cells self.now.rows.now) i) d) (slice_index_or (charges self.now.rows.now) (slice_index (cells self.now.rows.now) j) d) }
     {
         let rows = &*self.rows;
@@ -35,11 +36,11 @@ impl<C: Charge, L: Layout> LentQueue<'_, C, L> {
         L::may_top(&rows[a].charge, &rows[b].charge)
     }
 
-    #[tactic(auto, using(crate::proofs::Columns::stands))]
     // What stands at the positions `i` and `j` is exchanged.
+    #[tactic(auto, using(crate::proofs::Columns::stands))]
     pub(crate) fn exchange(&mut self, i: usize, j: usize)
-        requires i_within { i < length self.old.rows.now }
-        requires j_within { j < length self.old.rows.now }
+        requires i_within { i < many_rows self.old }
+        requires j_within { j < many_rows self.old }
         ensures len { self.new.len ≡ self.old.len }
         ensures charges { charges self.new.rows.now ≡ charges self.old.rows.now }
         ensures exchanged { Exchanged (cells self.old.rows.now) (positions self.old.rows.now) (cells self.new.rows.now) (positions self.new.rows.now) i j }

@@ -1,6 +1,6 @@
 -- The promise of a plan says it.
 use Rattle.house.proofs.Promise.{answered}
-use Rattle.house.proofs.memory.with_heap.Goals as goal
+use Rattle.house.proofs.memory.with_queue.Goals as goal
 
 pub returns : goal.returns
 returns g c = answered _ _ c.args.request _ _ _ _ _ _ _ _ c.plan.result c.plan.ensures
