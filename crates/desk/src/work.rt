@@ -5,6 +5,7 @@ use charge::money::Money;
 use heap::Heap;
 use job::replay::replay;
 use search::cell::Row;
+use search::memory::Memory;
 use site::run::Step;
 use site::site::Site;
 use slots::slot::Slot;
@@ -38,17 +39,19 @@ pub fn try_script(rt: &HostRuntime, survey: &Sealed, script: Script) -> anyhow::
     let mut cells = cell_rows(rt.alloc(), many)?;
     let mut slots = queue_rows(rt.alloc(), many)?;
     let mut run = run_rows(rt.alloc(), many)?;
-    let mut queue = Heap::over(slots.as_mut_slice());
     let mut entries = script.entries;
     let last = script.last;
+    let mut memory = Memory {
+        cells: cells.as_mut_slice(),
+        queue: Heap::over(slots.as_mut_slice()),
+        run: run.as_mut_slice(),
+    };
     let gave = replay(
         rt.alloc(),
         MoneyView::over(survey),
         entries.as_mut_slice(),
         last,
-        cells.as_mut_slice(),
-        &mut queue,
-        run.as_mut_slice(),
+        &mut memory,
     )?;
     for entry in entries.as_slice() {
         print::answer(rt, entry)?;

@@ -10,6 +10,7 @@ use planner::plan::plan;
 use planner::planned::Planned;
 use refusal::Refusal;
 use search::cell::{Cell, Link, Reached, Row};
+use search::memory::Memory as Lent;
 use site::run::{Request, Step};
 use site::site::Site;
 use slots::slot::Slot;
@@ -84,14 +85,11 @@ pub fn with_heap<S: Site>(
 ) -> Result<Planned<S::Charge>, Refusal>
     ensures { Answers (kind_of S.Charge.Charge) (S.Site.meaning site.now) request result }
 {
-    let mut queue = Heap::over(memory.slots.as_mut_slice());
-    plan(
-        site,
-        request,
-        memory.cells.as_mut_slice(),
-        &mut queue,
-        memory.run.as_mut_slice(),
-    )
+    let queue = Heap::over(memory.slots.as_mut_slice());
+    let cells = memory.cells.as_mut_slice();
+    let run = memory.run.as_mut_slice();
+    let mut lent = Lent { cells, queue, run };
+    plan(site, request, &mut lent)
 }
 
 // Plans with an ordered row.
@@ -102,14 +100,11 @@ pub fn with_ordered_row<S: Site>(
 ) -> Result<Planned<S::Charge>, Refusal>
     ensures { Answers (kind_of S.Charge.Charge) (S.Site.meaning site.now) request result }
 {
-    let mut queue = OrderedRow::over(memory.slots.as_mut_slice());
-    plan(
-        site,
-        request,
-        memory.cells.as_mut_slice(),
-        &mut queue,
-        memory.run.as_mut_slice(),
-    )
+    let queue = OrderedRow::over(memory.slots.as_mut_slice());
+    let cells = memory.cells.as_mut_slice();
+    let run = memory.run.as_mut_slice();
+    let mut lent = Lent { cells, queue, run };
+    plan(site, request, &mut lent)
 }
 
 // Plans for one request and then for another, with the same heap as the first plan left it; what the second gave.
@@ -121,11 +116,12 @@ pub fn again_with_heap<S: Site>(
 ) -> Result<Planned<S::Charge>, Refusal>
     ensures { Answers (kind_of S.Charge.Charge) (S.Site.meaning site.now) request result }
 {
-    let mut queue = Heap::over(memory.slots.as_mut_slice());
+    let queue = Heap::over(memory.slots.as_mut_slice());
     let cells = memory.cells.as_mut_slice();
     let run = memory.run.as_mut_slice();
-    let _ = plan(site, first, &mut *cells, &mut queue, &mut *run);
-    plan(site, request, &mut *cells, &mut queue, &mut *run)
+    let mut lent = Lent { cells, queue, run };
+    let _ = plan(site, first, &mut lent);
+    plan(site, request, &mut lent)
 }
 
 // Plans for one request and then for another, with the same ordered row as the first plan left it; what the second gave.
@@ -137,9 +133,10 @@ pub fn again_with_ordered_row<S: Site>(
 ) -> Result<Planned<S::Charge>, Refusal>
     ensures { Answers (kind_of S.Charge.Charge) (S.Site.meaning site.now) request result }
 {
-    let mut queue = OrderedRow::over(memory.slots.as_mut_slice());
+    let queue = OrderedRow::over(memory.slots.as_mut_slice());
     let cells = memory.cells.as_mut_slice();
     let run = memory.run.as_mut_slice();
-    let _ = plan(site, first, &mut *cells, &mut queue, &mut *run);
-    plan(site, request, &mut *cells, &mut queue, &mut *run)
+    let mut lent = Lent { cells, queue, run };
+    let _ = plan(site, first, &mut lent);
+    plan(site, request, &mut lent)
 }

@@ -7,6 +7,7 @@ use heap::Heap;
 use input::{print_fault, print_refusal, print_text, read_input, request_in};
 use relays::plan_for_money;
 use search::cell::Row;
+use search::memory::Memory;
 use sheet::page::sheet;
 use site::run::{Request, Step};
 use slots::slot::Slot;
@@ -63,8 +64,12 @@ fn plan_survey(rt: &HostRuntime, survey: &Sealed, request: Request) -> anyhow::R
     let mut cells = cell_rows(rt.alloc())?;
     let mut waiting = queue_rows(rt.alloc())?;
     let mut run = run_rows(rt.alloc())?;
-    let mut queue = Heap::over(&mut waiting);
-    match plan_for_money(survey, request, &mut cells, &mut queue, &mut run) {
+    let mut memory = Memory {
+        cells: &mut cells,
+        queue: Heap::over(&mut waiting),
+        run: &mut run,
+    };
+    match plan_for_money(survey, request, &mut memory) {
         Ok(planned) => {
             let count = planned.steps;
             print_sheet(rt, survey, request, &run[0..count])

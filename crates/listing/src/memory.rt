@@ -4,6 +4,7 @@ use heap::Heap;
 use ordered_row::OrderedRow;
 use planner::plan::plan;
 use search::cell::{Cell, Link, Reached, Row};
+use search::memory::Memory as Lent;
 use site::run::{Request, Step};
 use site::site::Site;
 use slots::slot::Slot;
@@ -54,14 +55,11 @@ fn with_heap<S: Site>(
     request: Request,
     memory: &mut Memory<S::Charge>,
 ) -> Option<S::Charge> {
-    let mut queue = Heap::over(memory.slots.as_mut_slice());
-    match plan(
-        site,
-        request,
-        memory.cells.as_mut_slice(),
-        &mut queue,
-        memory.run.as_mut_slice(),
-    ) {
+    let queue = Heap::over(memory.slots.as_mut_slice());
+    let cells = memory.cells.as_mut_slice();
+    let run = memory.run.as_mut_slice();
+    let mut lent = Lent { cells, queue, run };
+    match plan(site, request, &mut lent) {
         Ok(planned) => Some(planned.total),
         Err(_) => None,
     }
@@ -72,14 +70,11 @@ fn with_row<S: Site>(
     request: Request,
     memory: &mut Memory<S::Charge>,
 ) -> Option<S::Charge> {
-    let mut queue = OrderedRow::over(memory.slots.as_mut_slice());
-    match plan(
-        site,
-        request,
-        memory.cells.as_mut_slice(),
-        &mut queue,
-        memory.run.as_mut_slice(),
-    ) {
+    let queue = OrderedRow::over(memory.slots.as_mut_slice());
+    let cells = memory.cells.as_mut_slice();
+    let run = memory.run.as_mut_slice();
+    let mut lent = Lent { cells, queue, run };
+    match plan(site, request, &mut lent) {
         Ok(planned) => Some(planned.total),
         Err(_) => None,
     }

@@ -6,6 +6,7 @@ use grid::grid::FloorGrid;
 use heap::Heap;
 use planner::plan::plan;
 use search::cell::{Cell, Reached, Row};
+use search::memory::Memory;
 use site::run::{Request, Step};
 use site::site::Site;
 use slots::slot::Slot;
@@ -49,9 +50,13 @@ fn plan_over(
     run: &mut [Step],
 ) -> Option<u64> {
     let mut total = None;
-    let mut heap = Heap::over(slots);
+    let mut memory = Memory {
+        cells,
+        queue: Heap::over(slots),
+        run,
+    };
     for _ in 0..plans {
-        total = match plan(site, request, cells, &mut heap, run) {
+        total = match plan(site, request, &mut memory) {
             Ok(planned) => Some(planned.total.counted()),
             Err(_) => None,
         };
