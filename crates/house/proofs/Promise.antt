@@ -7,7 +7,7 @@ use Rattle.refusal.specs.declared.Refusal.TheVariants.{NoRun}
 use Rattle.site.specs.declared.run.Step.{Step}
 use Rattle.site.specs.declared.run.Request.{Request}
 use Rattle.site.specs.Meaning.{SiteMeaning}
-use Rattle.search.specs.declared.cell.Row.{Row}
+use Rattle.search.specs.Lends.{Lent}
 use Rattle.search.specs.Checks.{Stopped}
 use Rattle.planner.specs.declared.planned.Planned.{Planned}
 use Rattle.planner.specs.Outcome.{NoLawful, Refused, Outcome}
@@ -19,11 +19,11 @@ stopped_else places q cells many steps e (inl s) n = let a = s.0 in let z : ◌�
 stopped_else places q cells many steps e (inr (inl s)) n = let a = s.0 in let z : ◌≡◌ {A = ℕ} 0 1 = cc in omega arith
 stopped_else places q cells many steps e (inr (inr s)) n = let a = s.0 in let z : ◌≡◌ {A = ℕ} 0 1 = cc in omega arith
 
-module _ {C Q : Type 0} (k : Kind C) (m : SiteMeaning C) (q : Request) (many many' : ℕ) (cells cells' : List (Row C)) (queue queue' : Q) (run run' : List Step) where
-  refused : (e : Refusal) → Refused m q many cells cells' queue queue' run run' e → e ≡ NoRun → NoLawful m q
-  refused e (inl s) n = absurd (stopped_else _ q _ many _ e s.0 n)
+module _ {C Q : Type 0} (k : Kind C) (many : Q → ℕ) (m : SiteMeaning C) (q : Request) (h h' : Lent C Q) where
+  refused : (e : Refusal) → Refused m q (many h.queue) h h' e → e ≡ NoRun → NoLawful m q
+  refused e (inl s) n = absurd (stopped_else _ q _ _ _ e s.0 n)
   refused e (inr s) n = s.2
 
-  pub answered : (r : Result (Planned C) Refusal) → Outcome k m q many many' cells cells' queue queue' run run' r → Answers k m q r
-  answered (Ok p) o = (take p.steps run', o.answer.1.least)
+  pub answered : (r : Result (Planned C) Refusal) → Outcome k many m q h h' r → Answers k m q r
+  answered (Ok p) o = (take p.steps h'.run, o.answer.1.least)
   answered (Err e) o = refused e o.answer

@@ -2,10 +2,11 @@
 ghost use Rattle.std.specs.Prelude.{◌≡◌, ◌+◌, min, if◌then◌else◌};
 
 use crate::gave::of_money;
-use crate::memory::{Memory, Rows, with_queue};
+use crate::memory::with_queue;
 use charge::money::Money;
 use heap::Binary;
 use ordered_row::Chain;
+use owned_rows::{Counts, Filling, OwnedRows};
 use refusal::Refusal;
 use site::run::Request;
 use site::site::Site;
@@ -101,11 +102,11 @@ impl Cases<'_> {
         &mut self,
         case: Case,
         site: &S,
-        rows: Rows,
+        counts: Counts,
     ) -> anyhow::Result<()> {
-        let mut memory = Memory::new(self.rt.alloc(), rows)?;
-        let heap = of_money(with_queue::<S, Binary>(site, case.request, &mut memory));
-        let row = of_money(with_queue::<S, Chain>(site, case.request, &mut memory));
+        let mut rows = OwnedRows::filled(self.rt.alloc(), counts, Filling::used())?;
+        let heap = of_money(with_queue::<S, Binary>(site, case.request, &mut rows));
+        let row = of_money(with_queue::<S, Chain>(site, case.request, &mut rows));
         self.tell(case, heap, row)?;
         Ok(())
     }

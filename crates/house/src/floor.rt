@@ -1,11 +1,11 @@
 // Plans on floor grids: ways for 100 cents that lose 1 tenth, repeaters for 500 cents.
 use crate::case::{Case, Cases};
 use crate::jobs::done;
-use crate::memory::each;
 use anyhow::anyhow;
 use charge::money::Money;
 use grid::grid::FloorGrid;
 use job::job::Job;
+use owned_rows::Counts;
 use site::run::Request;
 
 // A square grid with so many places on each side.
@@ -39,11 +39,11 @@ pub fn on_two_jobs(cases: &mut Cases) -> anyhow::Result<()> {
     let mut below = Job::new(cases.rt.alloc(), square(3)?)?;
     done(below.close(0))?;
     let one = "grid of 3 by 3, way 0 closed";
-    cases.play(along_the_top(one, 400), &below, each(99))?;
+    cases.play(along_the_top(one, 400), &below, Counts::each(99))?;
     let mut above = Job::new(cases.rt.alloc(), below)?;
     done(above.close(12))?;
     let both = "grid of 3 by 3, way 0 closed on a job and way 12 on a job over it";
-    cases.play(along_the_top(both, 600), &above, each(99))
+    cases.play(along_the_top(both, 600), &above, Counts::each(99))
 }
 
 // The same two ways closed on one job.
@@ -52,7 +52,7 @@ pub fn on_one_job(cases: &mut Cases) -> anyhow::Result<()> {
     done(job.close(0))?;
     done(job.close(12))?;
     let both = "grid of 3 by 3, ways 0 and 12 closed on one job";
-    cases.play(along_the_top(both, 600), &job, each(99))
+    cases.play(along_the_top(both, 600), &job, Counts::each(99))
 }
 
 // From corner to corner of the largest grid there are 126 ways, and a bound of 100 asks for one repeater.
@@ -66,5 +66,5 @@ pub fn corner_to_corner(cases: &mut Cases) -> anyhow::Result<()> {
         },
         expected: Ok(13100),
     };
-    cases.play(case, &square(64)?, each(413696))
+    cases.play(case, &square(64)?, Counts::each(413696))
 }

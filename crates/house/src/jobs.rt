@@ -1,9 +1,9 @@
 // Plans on jobs over the house, and on jobs over jobs.
 use crate::case::{Case, Cases, across};
 use crate::four_places::house;
-use crate::memory::each;
 use anyhow::anyhow;
 use job::job::Job;
+use owned_rows::Counts;
 use refusal::Refusal;
 use views::money::MoneyView;
 
@@ -25,11 +25,23 @@ fn within_35(name: &str, total: u64) -> Case<'_> {
 pub fn closing(cases: &mut Cases) -> anyhow::Result<()> {
     let survey = house(cases.rt.alloc(), Some(2000))?;
     let mut job = Job::new(cases.rt.alloc(), MoneyView::over(&survey))?;
-    cases.play(within_35("a new job, bound 35", 1500), &job, each(144))?;
+    cases.play(
+        within_35("a new job, bound 35", 1500),
+        &job,
+        Counts::each(144),
+    )?;
     done(job.close(2))?;
-    cases.play(within_35("way 2 closed, bound 35", 2600), &job, each(144))?;
+    cases.play(
+        within_35("way 2 closed, bound 35", 2600),
+        &job,
+        Counts::each(144),
+    )?;
     done(job.reopen(2))?;
-    cases.play(within_35("way 2 reopened, bound 35", 1500), &job, each(144))
+    cases.play(
+        within_35("way 2 reopened, bound 35", 1500),
+        &job,
+        Counts::each(144),
+    )
 }
 
 // The way 2 closed on a job and on a job over it: to reopen it above leaves it shut below.
@@ -41,18 +53,18 @@ pub fn closing_twice(cases: &mut Cases) -> anyhow::Result<()> {
     cases.play(
         within_35("way 2 closed below, bound 35", 2600),
         &above,
-        each(144),
+        Counts::each(144),
     )?;
     done(above.close(2))?;
     cases.play(
         within_35("way 2 closed below and above, bound 35", 2600),
         &above,
-        each(144),
+        Counts::each(144),
     )?;
     done(above.reopen(2))?;
     cases.play(
         within_35("way 2 reopened above, bound 35", 2600),
         &above,
-        each(144),
+        Counts::each(144),
     )
 }

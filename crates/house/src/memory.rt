@@ -1,97 +1,31 @@
-// The working memory of plans, and plans with the queue of any layout over it.
-ghost use Rattle.std.specs.Prelude.{◌≡◌, ℕ, IfOk, vec_len};
+// Plans with the queue of any layout, on rows that hold whatever was there before.
+ghost use Rattle.std.specs.Prelude.{◌≡◌};
 ghost use Rattle.site.specs.Whole.{kind_of};
 ghost use Rattle.house.specs.Plans.{Answers};
 
-use charge::kind::Charge;
+use owned_rows::OwnedRows;
 use planner::plan::plan;
 use planner::planned::Planned;
 use refusal::Refusal;
-use search::cell::{Cell, Link, Reached, Row};
-use site::run::{Request, Step};
+use search::memory::Memory;
+use site::run::Request;
 use site::site::Site;
 use slots::layout::Leave;
 use slots::lent::LentQueue;
-use slots::slot::Slot;
-use std::alloc::{AllocError, Global};
-
-// How many rows there are of each sort.
-#[derive(Clone, Copy)]
-pub struct Rows {
-    pub cells: usize,
-    pub slots: usize,
-    pub steps: usize,
-}
-
-// As many rows of each sort.
-pub fn each(many: usize) -> Rows
-    ensures cells { result.cells ≡ many }
-    ensures slots { result.slots ≡ many }
-    ensures steps { result.steps ≡ many }
-{
-    Rows {
-        cells: many,
-        slots: many,
-        steps: many,
-    }
-}
-
-// Cell rows, queue rows and run rows. A plan finds in them whatever the plan before left.
-#[derive(Drop)]
-pub struct Memory<C> {
-    cells: Vec<Row<C>>,
-    slots: Vec<Slot<C>>,
-    run: Vec<Step>,
-}
-
-impl<C: Charge + Clone> Memory<C> {
-    // So many rows of each sort, which hold anything.
-    pub fn new(heap: Global, rows: Rows) -> Result<Memory<C>, AllocError>
-        ensures { IfOk result (λ m. (vec_len m.cells ≡ rows.cells) × (vec_len m.slots ≡ rows.slots) × (vec_len m.run ≡ rows.steps)) }
-    {
-        let charge = C::nothing();
-        let row = Row {
-            cell: Cell::Settled(Reached {
-                charge,
-                link: Some(Link {
-                    from: 3,
-                    step: Step { way: 7, mark: true },
-                }),
-                steps: 5,
-            }),
-            hint: Some(9),
-            head: Some(1),
-            next: Some(0),
-        };
-        let slot = Slot {
-            charge,
-            cell: 7,
-            position: 3,
-        };
-        let step = Step { way: 9, mark: true };
-        let cells = Vec::from_elem(heap, row, rows.cells)?;
-        let slots = Vec::from_elem(heap, slot, rows.slots)?;
-        let run = Vec::from_elem(heap, step, rows.steps)?;
-        Ok(Memory { cells, slots, run })
-    }
-}
 
 // Plans with the queue of a layout.
 pub fn with_queue<S: Site, L: Leave>(
     site: &S,
     request: Request,
-    memory: &mut Memory<S::Charge>,
+    rows: &mut OwnedRows<S::Charge>,
 ) -> Result<Planned<S::Charge>, Refusal>
     ensures { Answers (kind_of S.Charge.Charge) (S.Site.meaning site.now) request result }
 {
-    let mut queue = LentQueue::<S::Charge, L>::over(memory.slots.as_mut_slice());
-    plan(
-        site,
-        request,
-        memory.cells.as_mut_slice(),
-        &mut queue,
-        memory.run.as_mut_slice(),
-    )
+    let queue = LentQueue::<S::Charge, L>::over(rows.slots.as_mut_slice());
+    let cells = rows.cells.as_mut_slice();
+    let run = rows.run.as_mut_slice();
+    let mut memory = Memory { cells, queue, run };
+    plan(site, request, &mut memory)
 }
 
 // Plans for one request and then for another, with the same queue as the first plan left it; what the second gave.
@@ -99,13 +33,14 @@ pub fn again_with_queue<S: Site, L: Leave>(
     site: &S,
     first: Request,
     request: Request,
-    memory: &mut Memory<S::Charge>,
+    rows: &mut OwnedRows<S::Charge>,
 ) -> Result<Planned<S::Charge>, Refusal>
     ensures { Answers (kind_of S.Charge.Charge) (S.Site.meaning site.now) request result }
 {
-    let mut queue = LentQueue::<S::Charge, L>::over(memory.slots.as_mut_slice());
-    let cells = memory.cells.as_mut_slice();
-    let run = memory.run.as_mut_slice();
-    let _ = plan(site, first, &mut *cells, &mut queue, &mut *run);
-    plan(site, request, &mut *cells, &mut queue, &mut *run)
+    let queue = LentQueue::<S::Charge, L>::over(rows.slots.as_mut_slice());
+    let cells = rows.cells.as_mut_slice();
+    let run = rows.run.as_mut_slice();
+    let mut memory = Memory { cells, queue, run };
+    let _ = plan(site, first, &mut memory);
+    plan(site, request, &mut memory)
 }

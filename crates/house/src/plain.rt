@@ -2,9 +2,10 @@
 use crate::case::{Case, Cases, across};
 use crate::four_places::house;
 use crate::gave::of_disturbance;
-use crate::memory::{Memory, each, with_queue};
+use crate::memory::with_queue;
 use heap::Binary;
 use ordered_row::Chain;
+use owned_rows::{Counts, Filling, OwnedRows};
 use refusal::Refusal;
 use site::run::Request;
 use views::disturbance::DisturbanceView;
@@ -24,7 +25,7 @@ fn at_bound(
         expected,
     };
     let survey = house(cases.rt.alloc(), repeater)?;
-    cases.play(case, &MoneyView::over(&survey), each(180))
+    cases.play(case, &MoneyView::over(&survey), Counts::each(180))
 }
 
 // The lower the bound, the more repeaters are needed, until none helps.
@@ -58,7 +59,7 @@ pub fn nowhere(cases: &mut Cases) -> anyhow::Result<()> {
         expected: Ok(0),
     };
     let survey = house(cases.rt.alloc(), Some(2000))?;
-    cases.play(case, &MoneyView::over(&survey), each(144))
+    cases.play(case, &MoneyView::over(&survey), Counts::each(144))
 }
 
 // The disturbance of a run is its greatest grade.
@@ -70,9 +71,9 @@ pub fn disturbance(cases: &mut Cases) -> anyhow::Result<()> {
     };
     let survey = house(cases.rt.alloc(), Some(2000))?;
     let site = DisturbanceView::over(&survey);
-    let mut memory = Memory::new(cases.rt.alloc(), each(144))?;
-    let heap = of_disturbance(with_queue::<_, Binary>(&site, case.request, &mut memory));
-    let row = of_disturbance(with_queue::<_, Chain>(&site, case.request, &mut memory));
+    let mut rows = OwnedRows::filled(cases.rt.alloc(), Counts::each(144), Filling::used())?;
+    let heap = of_disturbance(with_queue::<_, Binary>(&site, case.request, &mut rows));
+    let row = of_disturbance(with_queue::<_, Chain>(&site, case.request, &mut rows));
     cases.tell(case, heap, row)?;
     Ok(())
 }

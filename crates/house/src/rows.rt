@@ -2,9 +2,10 @@
 use crate::case::{Case, Cases, across};
 use crate::four_places::house;
 use crate::gave::of_money;
-use crate::memory::{Memory, Rows, again_with_queue, each};
+use crate::memory::again_with_queue;
 use heap::Binary;
 use ordered_row::Chain;
+use owned_rows::{Counts, Filling, OwnedRows};
 use refusal::Refusal;
 use views::money::MoneyView;
 
@@ -25,7 +26,7 @@ fn with_rows(
         expected,
     };
     let survey = house(cases.rt.alloc(), Some(2000))?;
-    let rows = Rows {
+    let rows = Counts {
         cells,
         slots,
         steps,
@@ -46,19 +47,14 @@ pub fn few_rows(cases: &mut Cases) -> anyhow::Result<()> {
 pub fn used_rows(cases: &mut Cases) -> anyhow::Result<()> {
     let survey = house(cases.rt.alloc(), Some(2000))?;
     let site = MoneyView::over(&survey);
-    let mut memory = Memory::new(cases.rt.alloc(), each(180))?;
+    let mut rows = OwnedRows::filled(cases.rt.alloc(), Counts::each(180), Filling::used())?;
     let case = Case {
         name: "bound 33 on the rows and the queue that bound 44 has left",
         request: across(33),
         expected: Ok(1500),
     };
-    let heap = of_money(again_with_queue::<_, Binary>(
-        &site,
-        across(44),
-        case.request,
-        &mut memory,
-    ));
-    let row = of_money(again_with_queue::<_, Chain>(&site, across(44), case.request, &mut memory));
+    let heap = of_money(again_with_queue::<_, Binary>(&site, across(44), case.request, &mut rows));
+    let row = of_money(again_with_queue::<_, Chain>(&site, across(44), case.request, &mut rows));
     cases.tell(case, heap, row)?;
     Ok(())
 }

@@ -9,6 +9,8 @@ use Rattle.refusal.specs.declared.Refusal.{Refusal}
 use Rattle.site.specs.declared.run.Request.{Request}
 use Rattle.site.specs.Meaning.{SiteMeaning}
 use Rattle.search.proofs.Stopping.{stopped_fails}
+use Rattle.search.specs.Lends.{Lent}
+use Rattle.planner.specs.Outcome.{Outcome}
 use Rattle.planner.specs.declared.planned.Planned.{Planned}
 use Rattle.job.specs.declared.list.Call.{Call}
 use Rattle.job.specs.declared.list.Call.TheVariants.{Close, Reopen, Plan}
@@ -16,7 +18,7 @@ use Rattle.job.specs.declared.list.Answer.{Answer}
 use Rattle.job.specs.declared.list.Entry.{Entry}
 use Rattle.job.specs.Book.{after_call, after_calls, book_for}
 use Rattle.job.specs.Jobs.{shutting}
-use Rattle.job.specs.Replay.{calls_of, Lent, PlanOver, Tried, Tries, Law}
+use Rattle.job.specs.Replay.{calls_of, Tried, Tries, Law}
 
 pub after_more : (ways : ℕ) (book : ℕ → Bool) (calls : List Call) (c : Call) → after_calls ways book (calls ++ c ∷ []) ≡ after_call ways (after_calls ways book calls) c
 after_more ways book [] c = refl
@@ -64,7 +66,7 @@ set_same (y ∷ ys) (suc i) x e = ap (λ v. y ∷ v) (set_same ys i x e)
 
 module _ {C Q : Type 0} (k : Kind C) (many : Q → ℕ) (m : SiteMeaning C) (calls : List Call) (q : Request) (before h' : Lent C Q) where
   -- the law, from the promise of the plan
-  law_here : (r : Result (Planned C) Refusal) → PlanOver k many (shutting m (book_for m.ways calls)) q before h' r → Law k m calls q (length before.cells) (many before.queue) (length before.run) h'.run r
+  law_here : (r : Result (Planned C) Refusal) → Outcome k many (shutting m (book_for m.ways calls)) q before h' r → Law k m calls q (length before.cells) (many before.queue) (length before.run) h'.run r
   law_here (Ok p) o = record { passing = λ _. o.answer.1.least; stopped = λ fails. fails o.answer.0 }
   law_here (Err e) o = record {
     passing = λ passes. elim o.answer [
@@ -75,7 +77,7 @@ module _ {C Q : Type 0} (k : Kind C) (many : Q → ℕ) (m : SiteMeaning C) (cal
   }
 
   pub law_holds : (cells rows steps : ℕ) (r : Result (Planned C) Refusal) → length before.cells ≡ cells → many before.queue ≡ rows → length before.run ≡ steps
-      → PlanOver k many (shutting m (book_for m.ways calls)) q before h' r → Law k m calls q cells rows steps h'.run r
+      → Outcome k many (shutting m (book_for m.ways calls)) q before h' r → Law k m calls q cells rows steps h'.run r
   law_holds cells rows steps r a b c o =
       subst (λ (z : ℕ). Law k m calls q z rows steps h'.run r) a
       (subst (λ (z : ℕ). Law k m calls q (length before.cells) z steps h'.run r) b

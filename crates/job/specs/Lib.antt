@@ -1,4 +1,5 @@
 pub mod Book
 pub mod Jobs
 pub mod Bounds
+pub mod Gives
 pub mod Replay

@@ -1,6 +1,6 @@
 -- What trying a list of calls on a new job does, and what a plan made next on that job answers. Stands on runs, on the promise
 -- of a plan, and on the closing book.
-use Rattle.std.specs.Prelude.{◌≡◌, ℕ, Bool, List, [], ◌∷◌, map, length, take, Ok, Err, Result, MatchResult}
+use Rattle.std.specs.Prelude.{◌≡◌, ℕ, Bool, List, [], ◌∷◌, map, length, take, Result, MatchResult}
 use Rattle.charge.specs.Kind.{Kind}
 use Rattle.refusal.specs.declared.Refusal.{Refusal}
 use Rattle.refusal.specs.declared.Refusal.TheVariants.{NoRun}
@@ -8,49 +8,27 @@ use Rattle.site.specs.declared.run.Step.{Step}
 use Rattle.site.specs.declared.run.Request.{Request}
 use Rattle.site.specs.Meaning.{SiteMeaning}
 use Rattle.site.specs.Runs.{Least}
-use Rattle.search.specs.declared.cell.Row.{Row}
+use Rattle.search.specs.Lends.{Lent}
 use Rattle.search.specs.Checks.{Passed, Stopped}
 use Rattle.planner.specs.declared.planned.Planned.{Planned}
 use Rattle.planner.specs.Outcome.{Outcome, NoLawful}
 use Rattle.job.specs.declared.list.Call.{Call}
 use Rattle.job.specs.declared.list.Call.TheVariants.{Close, Reopen, Plan}
 use Rattle.job.specs.declared.list.Answer.{Answer}
-use Rattle.job.specs.declared.list.Answer.TheVariants.{Done, Found, Refused}
 use Rattle.job.specs.declared.list.Entry.{Entry}
 use Rattle.job.specs.Book.{empty_book, closing, reopening, after_call, book_for}
+use Rattle.job.specs.Gives.{of_change, of_plan}
 use Rattle.job.specs.Jobs.{shutting}
 
 abbrev pub calls_of : {C : Type 0} → List (Entry C) → List Call
 calls_of entries = map (λ e. e.call) entries
-
--- what is written beside a closing or a reopening, and beside a plan
-abbrev pub of_change : {C : Type 0} → Result (Unit {0}) Refusal → Answer C
-of_change (Ok u) = Done
-of_change (Err e) = Refused e
-
-abbrev pub of_plan : {C : Type 0} → Result (Planned C) Refusal → Answer C
-of_plan (Ok p) = Found p
-of_plan (Err e) = Refused e
-
--- what a caller lends: cell rows, a queue and run rows
-pub record Lent (C Q : Type 0) : Type 0 where
-  pub cells : List (Row C)
-  pub queue : Q
-  pub run : List Step
-
-abbrev pub lent : {C Q : Type 0} → List (Row C) → Q → List Step → Lent C Q
-lent cells queue run = record { cells = cells; queue = queue; run = run }
-
--- a plan over the site m, with what is lent as it was and as it is afterwards; a queue q has `many q` rows
-abbrev pub PlanOver : {C Q : Type 0} → Kind C → (Q → ℕ) → SiteMeaning C → Request → Lent C Q → Lent C Q → Result (Planned C) Refusal → Type 0
-PlanOver k many m q h h' r = Outcome k m q (many h.queue) (many h'.queue) h.cells h'.cells h.queue h'.queue h.run h'.run r
 
 -- one listed call, where the book stands so: a closing or a reopening gave what the book says, and what is lent is as it was;
 -- a plan gave what a plan promises over the ways that are open below and not in the book
 abbrev pub Tried : {C Q : Type 0} → Kind C → (Q → ℕ) → SiteMeaning C → (ℕ → Bool) → Lent C Q → Lent C Q → Call → Answer C → Type 0
 Tried k many m book h h' (Close w) a = (a ≡ of_change (closing m.ways book w)) × (h' ≡ h)
 Tried k many m book h h' (Reopen w) a = (a ≡ of_change (reopening m.ways book w)) × (h' ≡ h)
-Tried {C} k many m book h h' (Plan q) a = (r : Result (Planned C) Refusal) × (a ≡ of_plan r) × PlanOver k many (shutting m book) q h h' r
+Tried {C} k many m book h h' (Plan q) a = (r : Result (Planned C) Refusal) × (a ≡ of_plan r) × Outcome k many (shutting m book) q h h' r
 
 -- the listed calls, one by one, each over the book that those before it left
 abbrev pub Tries : {C Q : Type 0} → Kind C → (Q → ℕ) → SiteMeaning C → (ℕ → Bool) → Lent C Q → Lent C Q → List (Entry C) → Type 0
@@ -72,7 +50,7 @@ pub record Replayed {C Q : Type 0} (k : Kind C) (many : Q → ℕ) (m : SiteMean
   pub law : Law k m (calls_of entries) q (length h.cells) (many h.queue) (length h.run) h'.run r
   pub before : Lent C Q
   pub listed : Tries k many m empty_book h before entries'
-  pub next : PlanOver k many (shutting m (book_for m.ways (calls_of entries))) q before h' r
+  pub next : Outcome k many (shutting m (book_for m.ways (calls_of entries))) q before h' r
 
 -- a job could not be set up for want of memory: nothing was tried, and all is as it was
 pub record Untouched {C Q : Type 0} (entries entries' : List (Entry C)) (h h' : Lent C Q) : Type 0 where

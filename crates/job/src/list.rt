@@ -1,4 +1,7 @@
 // Lists of calls on a job, with what each gave beside it.
+ghost use Rattle.std.specs.Prelude.{◌≡◌};
+ghost use Rattle.job.specs.Gives.{of_change, of_plan};
+
 use planner::planned::Planned;
 use refusal::Refusal;
 use site::run::Request;
@@ -29,4 +32,28 @@ pub enum Answer<C> {
 pub struct Entry<C> {
     pub call: Call,
     pub answer: Answer<C>,
+}
+
+// What is written beside a closing or a reopening.
+impl<C> From<Result<(), Refusal>> for Answer<C> {
+    ghost from_gives = { λ gave answer. answer ≡ of_change gave };
+
+    fn from(gave: Result<(), Refusal>) -> Answer<C> {
+        match gave {
+            Ok(()) => Answer::Done,
+            Err(refusal) => Answer::Refused(refusal),
+        }
+    }
+}
+
+// What is written beside a plan.
+impl<C> From<Result<Planned<C>, Refusal>> for Answer<C> {
+    ghost from_gives = { λ gave answer. answer ≡ of_plan gave };
+
+    fn from(gave: Result<Planned<C>, Refusal>) -> Answer<C> {
+        match gave {
+            Ok(planned) => Answer::Found(planned),
+            Err(refusal) => Answer::Refused(refusal),
+        }
+    }
 }

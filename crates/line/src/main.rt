@@ -2,14 +2,12 @@
 // refused.
 #![tactic(auto)]
 
-use charge::money::Money;
 use heap::Heap;
 use input::{print_fault, print_refusal, print_sheet, read_input, request_in};
+use owned_rows::OwnedRows;
 use relays::plan_for_money;
-use search::cell::Row;
-use site::run::{Request, Step};
-use slots::slot::Slot;
-use std::alloc::{AllocError, Global};
+use search::memory::Memory;
+use site::run::Request;
 use survey::draft::Draft;
 use survey::sealed::Sealed;
 use survey_file::reader::FileReader;
@@ -23,34 +21,16 @@ const ROWS: usize = 3904;
 // How long a sheet may be.
 const PAGE: usize = 65536;
 
-// Working memory, empty.
-fn cell_rows(heap: Global) -> Result<Vec<Row<Money>>, AllocError> {
-    vec![in heap; Row::blank(); ROWS]
-}
-
-fn queue_rows(heap: Global) -> Result<Vec<Slot<Money>>, AllocError> {
-    vec![in heap; Slot {
-        charge: Money { cents: 0 },
-        cell: 0,
-        position: 0
-    }; ROWS]
-}
-
-fn run_rows(heap: Global) -> Result<Vec<Step>, AllocError> {
-    vec![in heap; Step {
-        way: 0,
-        mark: false
-    }; ROWS]
-}
-
 // Plans the least run for money over a survey, and prints it.
 fn plan_survey(rt: &HostRuntime, survey: &Sealed, request: Request) -> anyhow::Result<()> {
-    let mut cells = cell_rows(rt.alloc())?;
-    let mut waiting = queue_rows(rt.alloc())?;
-    let mut run = run_rows(rt.alloc())?;
-    let mut queue = Heap::over(&mut waiting);
-    match plan_for_money(survey, request, &mut cells, &mut queue, &mut run) {
-        Ok(planned) => print_sheet(rt, survey, request, &run[..planned.steps], PAGE),
+    let mut rows = OwnedRows::blank(rt.alloc(), ROWS)?;
+    let mut memory = Memory {
+        cells: &mut rows.cells,
+        queue: Heap::over(&mut rows.slots),
+        run: &mut rows.run,
+    };
+    match plan_for_money(survey, request, &mut memory) {
+        Ok(planned) => print_sheet(rt, survey, request, &rows.run[..planned.steps], PAGE),
         Err(refusal) => print_refusal(rt, refusal),
     }
 }

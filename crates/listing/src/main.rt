@@ -11,11 +11,12 @@ mod random;
 
 use crate::house::{Question, make_draft, make_question};
 use crate::list::{Found, list_runs};
-use crate::memory::{Memory, plan_both};
+use crate::memory::{ROWS, plan_both};
 use crate::random::Random;
 use charge::disturbance::Disturbance;
 use charge::money::Money;
 use job::job::Job;
+use owned_rows::{Counts, Filling, OwnedRows};
 use site::site::Site;
 use views::disturbance::DisturbanceView;
 use views::money::MoneyView;
@@ -47,7 +48,7 @@ fn planned<S: Site + Drop, F: Fn(S::Charge) -> u64>(
     rt: &HostRuntime,
     site: S,
     asked: &Question,
-    memory: &mut Memory<S::Charge>,
+    rows: &mut OwnedRows<S::Charge>,
     figure: F,
 ) -> anyhow::Result<[Option<u64>; 2]>
     requires { F.IsAlwaysCallable figure }
@@ -56,13 +57,13 @@ fn planned<S: Site + Drop, F: Fn(S::Charge) -> u64>(
     for way in asked.closed {
         let _ = work.close(way);
     }
-    let (heap, row) = plan_both(&work, asked.request, memory);
+    let (heap, row) = plan_both(&work, asked.request, rows);
     Ok([heap.map(&figure), row.map(&figure)])
 }
 
 fn main(rt: HostRuntime) -> anyhow::Result<()> {
-    let mut for_money = Memory::new(rt.alloc(), Money { cents: 7 })?;
-    let mut for_grade = Memory::new(rt.alloc(), Disturbance { grade: 7 })?;
+    let mut for_money = OwnedRows::filled(rt.alloc(), Counts::each(ROWS), Filling::used())?;
+    let mut for_grade = OwnedRows::filled(rt.alloc(), Counts::each(ROWS), Filling::used())?;
     let mut tally = Tally {
         houses: 0,
         runs: 0,

@@ -4,63 +4,36 @@
 use charge::money::Money;
 use grid::grid::FloorGrid;
 use heap::Heap;
+use owned_rows::{Counts, Filling, OwnedRows};
 use planner::plan::plan;
-use search::cell::{Cell, Reached, Row};
-use site::run::{Request, Step};
+use search::memory::Memory;
+use site::run::Request;
 use site::site::Site;
-use slots::slot::Slot;
-use std::alloc::{AllocError, Global};
-
-// Cell rows that hold anything.
-fn cell_rows(memory: Global, many: usize) -> Result<Vec<Row<Money>>, AllocError> {
-    let row = Row {
-        cell: Cell::Settled(Reached {
-            charge: Money { cents: 1 },
-            link: None,
-            steps: 0,
-        }),
-        hint: None,
-        head: None,
-        next: None,
-    };
-    Vec::from_elem(memory, row, many)
-}
-
-// Queue rows that hold anything.
-fn queue_rows(memory: Global, many: usize) -> Result<Vec<Slot<Money>>, AllocError> {
-    Vec::from_elem(
-        memory,
-        Slot {
-            charge: Money { cents: 1 },
-            cell: 0,
-            position: 0,
-        },
-        many,
-    )
-}
+use std::alloc::Global;
 
 // The total of a plan, made over and over on the same rows; none where it is refused.
 fn plan_over(
     site: &FloorGrid<Money>,
     request: Request,
     plans: u32,
-    cells: &mut [Row<Money>],
-    slots: &mut [Slot<Money>],
-    run: &mut [Step],
+    rows: &mut OwnedRows<Money>,
 ) -> Option<u64> {
     let mut total = None;
-    let mut heap = Heap::over(slots);
+    let mut memory = Memory {
+        cells: rows.cells.as_mut_slice(),
+        queue: Heap::over(rows.slots.as_mut_slice()),
+        run: rows.run.as_mut_slice(),
+    };
     for _ in 0..plans {
-        total = match plan(site, request, cells, &mut heap, run) {
-            Ok(planned) => Some(planned.total.counted()),
-            Err(_) => None,
-        };
+        total = plan(site, request, &mut memory)
+            .map(|planned| planned.total.counted())
+            .ok();
     }
     total
 }
 
 // Plans so many times over from the first place of a square grid to the place `end`, on rows that are taken for it, and
-// gives the cents of the total; the largest number where the plan is refused or memory is wanting.
+// gives the cents of the total; the largest number where the plan is refused or memory is wanting, since C has no Option.
 #[unsafe(no_mangle)]
 pub extern "C" fn plan_on_square(
     memory: Global,
@@ -84,20 +57,7 @@ pub extern "C" fn plan_on_square(
         return u64::MAX;
     }
     let many = places * (bound + 1);
-    let Ok(mut cells) = cell_rows(memory, many) else {
-        return u64::MAX;
-    };
-    let Ok(mut slots) = queue_rows(memory, many) else {
-        return u64::MAX;
-    };
-    let Ok(mut run) = Vec::from_elem(
-        memory,
-        Step {
-            way: 0,
-            mark: false,
-        },
-        many,
-    ) else {
+    let Ok(mut rows) = OwnedRows::filled(memory, Counts::each(many), Filling::used()) else {
         return u64::MAX;
     };
     let request = Request {
@@ -105,15 +65,5 @@ pub extern "C" fn plan_on_square(
         end,
         bound,
     };
-    match plan_over(
-        &site,
-        request,
-        plans,
-        cells.as_mut_slice(),
-        slots.as_mut_slice(),
-        run.as_mut_slice(),
-    ) {
-        Some(total) => total,
-        None => u64::MAX,
-    }
+    plan_over(&site, request, plans, &mut rows).unwrap_or(u64::MAX)
 }

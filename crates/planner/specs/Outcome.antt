@@ -9,7 +9,7 @@ use Rattle.site.specs.declared.run.Request.{Request}
 use Rattle.site.specs.Meaning.{SiteMeaning}
 use Rattle.site.specs.Runs.{Least, NoneTwice, Run}
 use Rattle.search.specs.Checks.{Passed, Stopped}
-use Rattle.search.specs.declared.cell.Row.{Row}
+use Rattle.search.specs.Lends.{Lent}
 use Rattle.planner.specs.declared.planned.Planned.{Planned}
 
 -- a least run stands in the first run rows and leaves no place twice with the same loss; the run rows behind are as they were
@@ -23,20 +23,15 @@ pub record Handed {C : Type 0} (k : Kind C) (m : SiteMeaning C) (q : Request) (r
 abbrev pub NoLawful : {C : Type 0} → SiteMeaning C → Request → Type 0
 NoLawful m q = (run : List Step) → Run m q run → ⊥
 
--- cell rows, queue and run rows are as they were
-pub record Untouched {C Q : Type 0} (cells cells' : List (Row C)) (queue queue' : Q) (run run' : List Step) : Type 0 where
-  pub same_cells : cells' ≡ cells
-  pub same_queue : queue' ≡ queue
-  pub same_run : run' ≡ run
+-- a refused request: it was stopped before any search, and all that was lent is as it was; or the search found that there is
+-- no lawful run, and the run rows are as they were
+abbrev pub Refused : {C Q : Type 0} → SiteMeaning C → Request → ℕ → Lent C Q → Lent C Q → Refusal → Type 0
+Refused m q many h h' e =
+    (Stopped m.places q (length h.cells) many (length h.run) e × (h' ≡ h))
+    ⊎ ((e ≡ NoRun) × Passed m.places q (length h.cells) many (length h.run) × NoLawful m q × (h'.run ≡ h.run))
 
--- a refused request: it was stopped before any search, and all is as it was; or the search found that there is no lawful
--- run, and the run rows are as they were
-abbrev pub Refused : {C Q : Type 0} → SiteMeaning C → Request → ℕ → List (Row C) → List (Row C) → Q → Q → List Step → List Step → Refusal → Type 0
-Refused m q many cells cells' queue queue' run run' e =
-    (Stopped m.places q (length cells) many (length run) e × Untouched cells cells' queue queue' run run')
-    ⊎ ((e ≡ NoRun) × Passed m.places q (length cells) many (length run) × NoLawful m q × (run' ≡ run))
-
--- a plan: a request that passes gets a least run, or it is refused; and the queue has as many rows as before
-pub record Outcome {C Q : Type 0} (k : Kind C) (m : SiteMeaning C) (q : Request) (many many' : ℕ) (cells cells' : List (Row C)) (queue queue' : Q) (run run' : List Step) (r : Result (Planned C) Refusal) : Type 0 where
-  pub answer : MatchResult r (λ p. Passed m.places q (length cells) many (length run) × Handed k m q run run' p) (λ e. Refused m q many cells cells' queue queue' run run' e)
-  pub rows : many' ≡ many
+-- a plan, with what is lent as it was and as it is afterwards; a queue x has `many x` rows: a request that passes gets a least
+-- run, or it is refused; and the queue has as many rows as before
+pub record Outcome {C Q : Type 0} (k : Kind C) (many : Q → ℕ) (m : SiteMeaning C) (q : Request) (h h' : Lent C Q) (r : Result (Planned C) Refusal) : Type 0 where
+  pub answer : MatchResult r (λ p. Passed m.places q (length h.cells) (many h.queue) (length h.run) × Handed k m q h.run h'.run p) (λ e. Refused m q (many h.queue) h h' e)
+  pub rows : many h'.queue ≡ many h.queue

@@ -2,6 +2,7 @@ ghost use Rattle.std.specs.Prelude.{◌≡◌, ◌<◌, ◌≤◌, length, Match
 ghost use Rattle.refusal.specs.declared.Refusal.TheVariants.{NoRun};
 ghost use Rattle.site.specs.Whole.{kind_of};
 ghost use Rattle.search.specs.Rows.{Room};
+ghost use Rattle.search.specs.Lends.{lent, SameLenders};
 ghost use Rattle.planner.specs.Outcome.{Handed, NoLawful, Outcome};
 
 use crate::planned::Planned;
@@ -13,6 +14,7 @@ use queue::queue::PriorityQueue;
 use refusal::Refusal;
 use search::cell::Row;
 use search::check::rows_needed;
+use search::memory::Memory;
 use site::run::{Request, Step};
 use site::site::Site;
 
@@ -41,12 +43,18 @@ fn search<S: Site, Q: PriorityQueue<Charge = S::Charge>>(
 pub fn plan<S: Site, Q: PriorityQueue<Charge = S::Charge>>(
     site: &S,
     request: Request,
-    cells: &mut [Row<S::Charge>],
-    queue: &mut Q,
-    run: &mut [Step],
+    memory: &mut Memory<'_, S::Charge, Q>,
 ) -> Result<Planned<S::Charge>, Refusal>
-    ensures { Outcome (kind_of S.Charge.Charge) (S.Site.meaning site.now) request (Q.PriorityQueue.many queue.old) (Q.PriorityQueue.many queue.new) cells.old cells.new queue.old queue.new run.old run.new result }
+    ensures outcome { Outcome (kind_of S.Charge.Charge) Q.PriorityQueue.many (S.Site.meaning site.now) request (lent memory.old) (lent memory.new) result }
+    ensures same { SameLenders memory.old memory.new }
 {
-    let rows = rows_needed(site, request, cells.len(), queue.rows(), run.len())?;
-    search(site, request, &mut cells[..rows], queue, run)
+    let rows = rows_needed(
+        site,
+        request,
+        memory.cells.len(),
+        memory.queue.rows(),
+        memory.run.len(),
+    )?;
+    let cells = &mut memory.cells[..rows];
+    search(site, request, cells, &mut memory.queue, memory.run)
 }

@@ -13,7 +13,7 @@ use Rattle.site.specs.Meaning.{Bounded}
 use Rattle.site.specs.Runs.{Least, NoneTwice}
 use Rattle.search.specs.Checks.{BoundStands}
 use Rattle.search.proofs.Stopping.{stopped_fails, stopped_other}
-use Rattle.search.specs.declared.cell.Row.{Row}
+use Rattle.search.specs.Lends.{Lent}
 use Rattle.views.specs.SurveySite.{money_site}
 use Rattle.views.specs.Bounds.{sealed_bounded}
 use Rattle.planner.specs.declared.planned.Planned.{Planned}
@@ -60,20 +60,20 @@ module _ (s : Sealed) (q : Request) where
         exact = exact;
       }
 
-  pub refused_unsolved : {Q : Type 0} (many : ℕ) (cells cells' : List (Row Money)) (queue queue' : Q) (run run' : List Step) (e : Refusal)
-      → Refused (money_site (sealed_contents s)) q many cells cells' queue queue' run run' e → Unsolved (sealed_contents s) q (length cells) many (length run) e
-  refused_unsolved many cells cells' queue queue' run run' e refused = elim refused [
+  pub refused_unsolved : {Q : Type 0} (many : ℕ) (h h' : Lent Money Q) (e : Refusal)
+      → Refused (money_site (sealed_contents s)) q many h h' e → Unsolved (sealed_contents s) q (length h.cells) many (length h.run) e
+  refused_unsolved many h h' e refused = elim refused [
     | inl a ↦ record {
-      none = λ is. absurd (stopped_other _ q (length cells) many (length run) e a.0 is);
-      only = λ p. absurd (stopped_fails _ q (length cells) many (length run) e a.0 p);
+      none = λ is. absurd (stopped_other _ q (length h.cells) many (length h.run) e a.0 is);
+      only = λ p. absurd (stopped_fails _ q (length h.cells) many (length h.run) e a.0 p);
     }
     | inr b ↦ record { none = λ is other f. b.2 other (feasible_lawful (sealed_contents s) q other f); only = λ p. b.0 }
   ]
 
   -- the outcome of a plan answers the problem
-  pub outcome_answers : {Q : Type 0} (many many' : ℕ) (cells cells' : List (Row Money)) (queue queue' : Q) (run run' : List Step) (r : Result (Planned Money) Refusal)
-      → Outcome money (money_site (sealed_contents s)) q many many' cells cells' queue queue' run run' r → Answered (sealed_contents s) q (length cells) many (length run) run' r
-  outcome_answers many many' cells cells' queue queue' run run' (Ok p) o =
+  pub outcome_answers : {Q : Type 0} (many : Q → ℕ) (h h' : Lent Money Q) (r : Result (Planned Money) Refusal)
+      → Outcome money many (money_site (sealed_contents s)) q h h' r → Answered (sealed_contents s) q (length h.cells) (many h.queue) (length h.run) h'.run r
+  outcome_answers many h h' (Ok p) o =
       let answer = o.answer in
-      least_solved (take p.steps run') p.total answer.0.bound_stands answer.1.least answer.1.once
-  outcome_answers many many' cells cells' queue queue' run run' (Err e) o = refused_unsolved many cells cells' queue queue' run run' e o.answer
+      least_solved (take p.steps h'.run) p.total answer.0.bound_stands answer.1.least answer.1.once
+  outcome_answers many h h' (Err e) o = refused_unsolved (many h.queue) h h' e o.answer

@@ -5,6 +5,7 @@ ghost use Rattle.std.specs.Prelude.{length};
 ghost use Rattle.charge.specs.Moneys.{money};
 ghost use Rattle.survey.specs.Sealing.{sealed_contents};
 ghost use Rattle.views.specs.SurveySite.{money_site};
+ghost use Rattle.search.specs.Lends.{lent, SameLenders};
 ghost use Rattle.planner.specs.Outcome.{Outcome};
 ghost use Rattle.relays.specs.Answers.{Answered};
 
@@ -13,8 +14,8 @@ use planner::plan::plan;
 use planner::planned::Planned;
 use queue::queue::PriorityQueue;
 use refusal::Refusal;
-use search::cell::Row;
-use site::run::{Request, Step};
+use search::memory::Memory;
+use site::run::Request;
 use survey::sealed::Sealed;
 use views::money::MoneyView;
 
@@ -22,26 +23,24 @@ use views::money::MoneyView;
 fn plan_over<Q: PriorityQueue<Charge = Money>>(
     view: &MoneyView<'_>,
     request: Request,
-    cells: &mut [Row<Money>],
-    queue: &mut Q,
-    run: &mut [Step],
+    memory: &mut Memory<'_, Money, Q>,
 ) -> Result<Planned<Money>, Refusal>
-    ensures { Outcome money (money_site (sealed_contents view.now.survey.now)) request (Q.PriorityQueue.many queue.old) (Q.PriorityQueue.many queue.new) cells.old cells.new queue.old queue.new run.old run.new result }
+    ensures outcome { Outcome money Q.PriorityQueue.many (money_site (sealed_contents view.now.survey.now)) request (lent memory.old) (lent memory.new) result }
+    ensures same { SameLenders memory.old memory.new }
 {
-    plan(view, request, cells, queue, run)
+    plan(view, request, memory)
 }
 
 // Plans a cheapest run over a sealed survey. The cell rows and the queue are working memory.
 pub fn plan_for_money<Q: PriorityQueue<Charge = Money>>(
     survey: &Sealed,
     request: Request,
-    cells: &mut [Row<Money>],
-    queue: &mut Q,
-    run: &mut [Step],
+    memory: &mut Memory<'_, Money, Q>,
 ) -> Result<Planned<Money>, Refusal>
-    ensures plan { Outcome money (money_site (sealed_contents survey.now)) request (Q.PriorityQueue.many queue.old) (Q.PriorityQueue.many queue.new) cells.old cells.new queue.old queue.new run.old run.new result }
-    ensures problem { Answered (sealed_contents survey.now) request (length cells.old) (Q.PriorityQueue.many queue.old) (length run.old) run.new result }
+    ensures plan { Outcome money Q.PriorityQueue.many (money_site (sealed_contents survey.now)) request (lent memory.old) (lent memory.new) result }
+    ensures problem { Answered (sealed_contents survey.now) request (length memory.old.cells.now) (Q.PriorityQueue.many memory.old.queue) (length memory.old.run.now) memory.new.run.now result }
+    ensures same { SameLenders memory.old memory.new }
 {
     let view = MoneyView::over(survey);
-    plan_over(&view, request, cells, queue, run)
+    plan_over(&view, request, memory)
 }

@@ -4,3 +4,4 @@ pub mod Search
 pub mod Rows
 pub mod Columns
 pub mod Index
+pub mod Lends

@@ -4,4 +4,5 @@
 
 pub mod cell;
 pub mod check;
+pub mod memory;
 pub mod step;

@@ -43,21 +43,16 @@ impl<S> Job<S> {
     pub fn is_closed(&self, way: usize) -> bool
         ensures { result ≡ closed_by self.now way }
     {
-        if way < self.closed.len() {
-            self.closed[way]
-        } else {
-            false
-        }
+        self.closed.get(way).copied().unwrap_or(false)
     }
 }
 
 // A mark for each way number that a site can have, all of them open.
-pub(crate) fn open_marks(heap: Global) -> Result<Vec<bool>, AllocError>
+fn open_marks(heap: Global) -> Result<Vec<bool>, AllocError>
     ensures full { IfOk result (λ v. vec_len v ≡ 16384) }
     ensures open { IfOk result (λ v. (n : ℕ) → slice_index_or v.items n false ≡ false) }
 {
-    let closed = vec![in heap; false; 16384]?;
-    Ok(closed)
+    vec![in heap; false; 16384]
 }
 
 impl<S: Site + Drop> Job<S> {

@@ -2,14 +2,16 @@
 -- far; and those have been tried.
 use Rattle.std.proofs.Common.{◌≡◌, take}
 use Rattle.site.specs.Whole.{kind_of}
+use Rattle.search.specs.Lends.{lent, SameLenders}
 use Rattle.job.specs.Book.{after_calls}
 use Rattle.job.specs.Jobs.{site_below, closed_by}
-use Rattle.job.specs.Replay.{calls_of, lent, Tries}
+use Rattle.job.specs.Replay.{calls_of, Tries}
 use Rattle.job.proofs.replay.try_all.Given as goal
 
-abbrev pub invariant-loop-at : goal.invariant-loop-at
-invariant-loop-at g l =
+abbrev pub invariant-loop-entry : goal.invariant-loop-entry
+invariant-loop-entry g l =
     (calls_of l.entries ≡ calls_of l.initial.entries)
     × (site_below l.job ≡ site_below l.initial.job)
-    × (closed_by l.job ≡ after_calls (g.S.Site.meaning (site_below l.initial.job)).ways (closed_by l.initial.job) (calls_of (take l.at l.entries)))
-    × Tries (kind_of g.S.Charge.Charge) g.Q.PriorityQueue.many (g.S.Site.meaning (site_below l.initial.job)) (closed_by l.initial.job) (lent l.initial.cells l.initial.queue l.initial.run) (lent l.cells l.queue l.run) (take l.at l.entries)
+    × (closed_by l.job ≡ after_calls (g.S.Site.meaning (site_below l.initial.job)).ways (closed_by l.initial.job) (calls_of (take l.entry-index l.entries)))
+    × Tries (kind_of g.S.Charge.Charge) g.Q.PriorityQueue.many (g.S.Site.meaning (site_below l.initial.job)) (closed_by l.initial.job) (lent l.initial.memory) (lent l.memory) (take l.entry-index l.entries)
+    × SameLenders l.initial.memory l.memory

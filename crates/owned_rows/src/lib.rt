@@ -2,10 +2,10 @@
 #![tactic(auto)]
 
 ghost use Rattle.std.specs.Prelude.{◌≡◌, IfOk};
-ghost use Rattle.rows.specs.Fillings.{as_many, counted, blank_filling};
+ghost use Rattle.owned_rows.specs.Fillings.{as_many, counted, blank_filling, used_filling};
 
 use charge::kind::Charge;
-use search::cell::Row;
+use search::cell::{Cell, Link, Reached, Row};
 use site::run::Step;
 use slots::slot::Slot;
 use std::alloc::{AllocError, Global};
@@ -55,6 +55,36 @@ impl<C: Charge> Filling<C> {
                 way: 0,
                 mark: false,
             },
+        }
+    }
+}
+
+impl<C: Charge> Filling<C> {
+    // Rows as a plan might have left them, to show that the next one reads nothing of it.
+    pub fn used() -> Filling<C>
+        ensures { result ≡ used_filling C.Charge.free }
+    {
+        let charge = C::nothing();
+        Filling {
+            cell: Row {
+                cell: Cell::Settled(Reached {
+                    charge,
+                    link: Some(Link {
+                        from: 3,
+                        step: Step { way: 7, mark: true },
+                    }),
+                    steps: 5,
+                }),
+                hint: Some(9),
+                head: Some(1),
+                next: Some(0),
+            },
+            slot: Slot {
+                charge,
+                cell: 7,
+                position: 3,
+            },
+            step: Step { way: 9, mark: true },
         }
     }
 }

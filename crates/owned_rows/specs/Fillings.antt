@@ -1,0 +1,36 @@
+-- How many rows there are of each sort, and what rows hold that tell nothing. Stands on the structs of the rows.
+use Rattle.std.specs.Prelude.{ℕ, true, false, Some, vec_len}
+use Rattle.search.specs.Columns.{blank_row}
+use Rattle.search.specs.declared.cell.Cell.TheVariants.{Settled}
+use Rattle.owned_rows.specs.declared.Counts.{Counts}
+use Rattle.owned_rows.specs.declared.Filling.{Filling}
+use Rattle.owned_rows.specs.declared.OwnedRows.{OwnedRows}
+
+-- as many of each sort
+abbrev pub as_many : ℕ → Counts
+as_many n = record { cells = n; slots = n; steps = n }
+
+-- how many there are
+abbrev pub counted : {C : Type 0} → OwnedRows C → Counts
+counted r = record { cells = vec_len r.cells; slots = vec_len r.slots; steps = vec_len r.run }
+
+-- rows that tell nothing, with the charge c where one has to stand
+abbrev pub blank_filling : {C : Type 0} → C → Filling C
+blank_filling c = record {
+  cell = blank_row;
+  slot = record { charge = c; cell = 0; position = 0 };
+  step = record { way = 0; mark = false };
+}
+
+-- rows as a plan might have left them, with the charge c
+abbrev pub used_filling : {C : Type 0} → C → Filling C
+used_filling c = record {
+  cell = record {
+    cell = Settled (record { charge = c; link = Some (record { from = 3; step = record { way = 7; mark = true } }); steps = 5 });
+    hint = Some 9;
+    head = Some 1;
+    next = Some 0;
+  };
+  slot = record { charge = c; cell = 7; position = 3 };
+  step = record { way = 9; mark = true };
+}

@@ -1,0 +1,21 @@
+-- What a caller lends to a plan, as the rows and the queue behind its references. Stands on nothing but the rows.
+use Rattle.std.specs.Prelude.{◌≡◌, List, length}
+use Rattle.site.specs.declared.run.Step.{Step}
+use Rattle.search.specs.declared.cell.Row.{Row}
+use Rattle.search.specs.declared.memory.Memory.{Memory}
+
+-- cell rows, a queue and run rows
+pub record Lent (C Q : Type 0) : Type 0 where
+  pub cells : List (Row C)
+  pub queue : Q
+  pub run : List Step
+
+abbrev pub lent : {C Q : Type 0} → Memory C Q → Lent C Q
+lent m = record { cells = m.cells.now; queue = m.queue; run = m.run.now }
+
+-- the same rows are lent as before, as many of them
+pub record SameLenders {C Q : Type 0} (m m' : Memory C Q) : Type 0 where
+  pub cells : m'.cells.ghost_name ≡ m.cells.ghost_name
+  pub run : m'.run.ghost_name ≡ m.run.ghost_name
+  pub many_cells : length m'.cells.now ≡ length m.cells.now
+  pub many_steps : length m'.run.now ≡ length m.run.now
