@@ -7,7 +7,8 @@ use charge::money::Money;
 use planner::planned::Planned;
 use refusal::Refusal;
 
-// The cents of a total.
+// The cents of a total. Each kind has a figure of its own, which its definition names: one function for both would only hand
+// the figure on to `map`.
 pub fn of_money(planned: Result<Planned<Money>, Refusal>) -> Result<u64, Refusal>
     ensures { result ≡ money_gave planned }
 {

@@ -58,7 +58,9 @@ struct Player<'a> {
 }
 
 impl Player<'_> {
-    // One call on both queues: prints the first answer and SAME, or OTHER and the second answer.
+    // One call on both queues: prints the first answer and SAME, or OTHER and the second answer. The order of each queue's rows
+    // stays a `requires`: tried as ghost fields of a pair of queues, it is refused, since of a queue by its bound it is not
+    // known that its order is a proposition.
     fn play<P: PriorityQueue<Charge = Money>, Q: PriorityQueue<Charge = Money>>(
         &mut self,
         first: &mut P,
