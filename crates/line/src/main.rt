@@ -30,7 +30,7 @@ fn plan_survey(rt: &HostRuntime, survey: &Sealed, request: Request) -> anyhow::R
         run: &mut rows.run,
     };
     match plan_for_money(survey, request, &mut memory) {
-        Ok(planned) => print_sheet(rt, survey, request, &rows.run[..planned.steps], PAGE),
+        Ok(planned) => print_sheet(rt, survey, request, &memory.run[..planned.steps], PAGE),
         Err(refusal) => print_refusal(rt, refusal),
     }
 }
