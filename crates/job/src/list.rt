@@ -6,6 +6,7 @@ use planner::planned::Planned;
 use refusal::Refusal;
 use site::run::Request;
 
+// A call on a job.
 #[derive(Clone, Copy)]
 pub enum Call {
     // close the way with this number
@@ -16,6 +17,7 @@ pub enum Call {
     Plan(Request),
 }
 
+// What a call gave. (An option of a result of an option would be no plainer: it would name none of the four.)
 #[derive(Clone, Copy)]
 pub enum Answer<C> {
     // not tried yet
@@ -28,6 +30,7 @@ pub enum Answer<C> {
     Refused(Refusal),
 }
 
+// A call with its answer beside it.
 #[derive(Clone, Copy)]
 pub struct Entry<C> {
     pub call: Call,

@@ -34,6 +34,7 @@ pub enum Cell<C> {
 // A row of working memory serves three numbers at once. Of the cell with the row's number it holds what is known. Of the
 // place with that number it holds `hint`, a cell of the place that was settled lately, and `head`, the largest way that
 // leaves the place. Of the way with that number it holds `next`, the next smaller way that leaves the same place.
+// (The lists of ways are linked by number inside the rows, since the lent rows are all the memory that a plan has.)
 #[derive(Clone, Copy)]
 pub struct Row<C> {
     pub cell: Cell<C>,
