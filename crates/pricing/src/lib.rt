@@ -25,11 +25,7 @@ fn mark_allowed<S: Site>(site: &S, request: Request, mark: bool, place: usize) -
     ensures yes { result ≡ true → MarkAllowed (S.Site.meaning site.now) request mark place }
     ensures back { MarkAllowed (S.Site.meaning site.now) request mark place → result ≡ true }
 {
-    if mark {
-        markable(site, request, place)
-    } else {
-        true
-    }
+    !mark || markable(site, request, place)
 }
 
 // Where a step leads from where the run stands, or none where it may not be made.
@@ -80,9 +76,5 @@ pub fn total_of<S: Site>(site: &S, request: Request, steps: &[Step]) -> Option<S
     ensures { MatchOption result (Run (S.Site.meaning site.now) request steps.now → ⊥) (λ c. Run (S.Site.meaning site.now) request steps.now × (c ≡ total (kind_of S.Charge.Charge) (S.Site.meaning site.now) steps.now)) }
 {
     let here = follow(site, request, steps)?;
-    if here.place == request.end {
-        Some(here.sum)
-    } else {
-        None
-    }
+    (here.place == request.end).then_some(here.sum)
 }

@@ -39,10 +39,6 @@ module _ (up down : ℕ → ℕ) (t : Tree up down) (R : ℕ → ℕ → Type 0)
         | inr np ↦ s.others k h b np
       ]
 
-  -- the fall ends: nothing stands below
-  pub childless : (cs : List ℕ) (len i : ℕ) → len ≤ down i → Sinking up R cs len i → Arranged up R cs len
-  childless cs len i none s k h b = s.others k h b (λ e. let w = t.two i k h e in omega arith)
-
   pub top_ahead : (cs : List ℕ) (len fuel k : ℕ) → R (get_or cs 0 0) (get_or cs 0 0) → Arranged up R cs len → k ≤ fuel → k < len → R (get_or cs 0 0) (get_or cs k 0)
   top_ahead cs len zero k self a f b = moved R refl (ap (λ m. get_or cs m 0) (omega arith)) self
   top_ahead cs len (suc fuel) k self a f b =
