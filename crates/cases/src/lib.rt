@@ -7,5 +7,4 @@ ghost use Rattle.cases.specs.Cases.{WorkedCases};
 // loss card. There is nothing to compute.
 pub fn worked_cases()
     ensures { WorkedCases }
-{
-}
+{}
