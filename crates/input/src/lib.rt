@@ -54,7 +54,7 @@ pub fn print_text(rt: &HostRuntime, text: &[u8]) -> anyhow::Result<()> {
     Ok(())
 }
 
-// Prints the line of a fault in a file.
+// Prints the line of a fault in a file. (The line fits, so nothing is left for the other arm to do.)
 pub fn print_fault(rt: &HostRuntime, fault: Fault) -> anyhow::Result<()> {
     let mut text = [0u8; 64];
     match fault_line(fault, &mut text) {
@@ -63,7 +63,7 @@ pub fn print_fault(rt: &HostRuntime, fault: Fault) -> anyhow::Result<()> {
     }
 }
 
-// Prints the line of a refusal.
+// Prints the line of a refusal. (The same; the two differ in the call that makes the line.)
 pub fn print_refusal(rt: &HostRuntime, refusal: Refusal) -> anyhow::Result<()> {
     let mut text = [0u8; 64];
     match refusal_line(refusal, &mut text) {

@@ -111,8 +111,8 @@ fn offer_way<S: Site, Q: PriorityQueue<Charge = S::Charge>>(
     }
 }
 
-#[tactic(auto, using(search::proofs::Trails::place_below))]
 // Offers every way out of the settled cell `at`: first those past the index, one by one, then those that the index has.
+#[tactic(auto, using(search::proofs::Trails::place_below))]
 pub fn expand<S: Site, Q: PriorityQueue<Charge = S::Charge>>(
     site: &S,
     request: Request,

@@ -29,9 +29,9 @@ fn is_settled<C: Charge>(cell: Cell<C>) -> bool
     matches!(cell, Cell::Settled(_))
 }
 
-#[tactic(auto, using(search::proofs::Trails::place_below))]
 // Whether the cell that the place's row hints at dominates the cell `at`: it is another one of the same place, settled,
 // with no more loss. Everything about the hint is looked at, so it need not be a good one.
+#[tactic(auto, using(search::proofs::Trails::place_below))]
 fn dominated<C: Charge>(request: Request, cells: &[Row<C>], at: usize) -> bool
     requires bound { request.bound ≤ 1000 }
     requires inside { at < length cells.now }

@@ -43,3 +43,30 @@ pub trait PriorityQueue {
         ensures many { many self.new ≡ many self.old }
         ensures answer { MatchOption result (((k : ℕ) → waits self.old k ≡ None) × (self.new ≡ self.old)) (λ p. (p.0 < many self.old) × Taken Self.Charge.Charge.within (waits self.old) (waits self.new) p.0 p.1) };
 }
+
+// A queue that is lent is a queue.
+impl<Q: PriorityQueue> PriorityQueue for &mut Q {
+    type Charge = Q::Charge;
+
+    ghost waits = { λ q. Q.PriorityQueue.waits q.now };
+
+    ghost ordered = { λ q. Q.PriorityQueue.ordered q.now };
+
+    ghost many = { λ q. Q.PriorityQueue.many q.now };
+
+    fn rows(&self) -> usize {
+        (**self).rows()
+    }
+
+    fn clear(&mut self) {
+        (**self).clear()
+    }
+
+    fn put(&mut self, cell: usize, charge: Q::Charge) -> Result<(), Refusal> {
+        (**self).put(cell, charge)
+    }
+
+    fn take(&mut self) -> Option<(usize, Q::Charge)> {
+        (**self).take()
+    }
+}

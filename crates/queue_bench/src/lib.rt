@@ -48,7 +48,7 @@ fn churn<Q: PriorityQueue<Charge = Money>>(queue: &mut Q, steps: &[u64], taken: 
     }
 }
 
-// Puts every charge, then takes them in order. False where there is no memory for the rows.
+// Puts every charge, then takes them in order. False where there is no memory for the rows, since C has no Result.
 #[unsafe(no_mangle)]
 pub extern "C" fn heap_fill_and_drain(memory: Global, charges: &[u64], taken: &mut [u64]) -> bool {
     let Ok(mut rows) = vec![in memory; USED; charges.len()] else {
@@ -60,7 +60,7 @@ pub extern "C" fn heap_fill_and_drain(memory: Global, charges: &[u64], taken: &m
     true
 }
 
-// Puts every charge, then takes and puts again, once for each step. False where there is no memory for the rows.
+// Puts every charge, then takes and puts again, once for each step. False where there is no memory for the rows, as above.
 #[unsafe(no_mangle)]
 pub extern "C" fn heap_churn(
     memory: Global,

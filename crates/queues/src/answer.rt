@@ -43,7 +43,7 @@ pub fn ask<Q: PriorityQueue<Charge = Money>>(queue: &mut Q, call: Call) -> Answe
     ensures answer { Answered (Q.PriorityQueue.many queue.old) (Q.PriorityQueue.waits queue.old) (Q.PriorityQueue.waits queue.new) call result }
 {
     match call {
-        Call::Rows(_) => Answer::Rows(queue.rows()),
+        Call::Rows(_) => Answer::Rows(Q::rows(queue)),
         Call::Put(cell, cents) => Answer::Put(queue.put(cell, Money { cents })),
         Call::Take => Answer::Took(queue.take().map(|(_, charge)| charge.counted())),
         Call::Empty => {

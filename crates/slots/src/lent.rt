@@ -60,9 +60,10 @@ impl<C: Charge, L: Leave> PriorityQueue for LentQueue<'_, C, L> {
         self.len = 0;
     }
 
+    // (Inlined, since else the rows' address is read anew at each step of a climb.)
     #[inline(always)]
     fn put(&mut self, cell: usize, charge: C) -> Result<(), Refusal> {
-        if cell >= self.rows() {
+        if cell >= self.rows.len() {
             return Err(Refusal::NoSuchCell);
         }
         if self.rows[cell].position < self.len {
