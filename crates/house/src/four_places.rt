@@ -7,11 +7,8 @@ use survey::entry::WayEntry;
 use survey::sealed::Sealed;
 
 // An entry that has to be accepted.
-fn accepted(entered: Result<usize, Refusal>) -> anyhow::Result<()> {
-    match entered {
-        Ok(_) => Ok(()),
-        Err(_) => Err(anyhow!("an entry of the house was refused")),
-    }
+fn accepted(entered: Result<usize, Refusal>) -> anyhow::Result<usize> {
+    entered.map_err(|_| anyhow!("an entry of the house was refused"))
 }
 
 // A way of unscreened cable.

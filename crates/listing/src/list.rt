@@ -44,7 +44,7 @@ fn over(asked: &Question, here: Here, number: usize, way: &WayEntry) -> Option<H
     };
     let loss = here
         .loss
-        .saturating_add((way.metres as usize * per_hundred + 99) / 100);
+        .saturating_add((way.metres as usize * per_hundred).div_ceil(100));
     let goes = way.from as usize == here.place && loss <= asked.request.bound;
     if !goes || asked.closed.contains(&number) {
         return None;

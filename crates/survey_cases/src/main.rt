@@ -16,17 +16,15 @@ use survey_file::reader::FileReader;
 
 // Every proper front of the house is refused with 1, at the field that is cut. How many are.
 fn fronts(reader: &mut FileReader, draft: &mut Draft) -> usize {
-    let mut right = 0usize;
-    for count in 0..88 {
-        let cut = Fault {
-            refusal: Refusal::CutShort,
-            place: field_start(count),
-        };
-        if reader.read(&HOUSE[..count], draft) == Err(cut) {
-            right = right.saturating_add(1);
-        }
-    }
-    right
+    (0..88)
+        .filter(|count| {
+            let cut = Fault {
+                refusal: Refusal::CutShort,
+                place: field_start(*count),
+            };
+            reader.read(&HOUSE[..*count], draft) == Err(cut)
+        })
+        .count()
 }
 
 // One byte of the house changed to another: refused, or read as another survey, whose file is the changed one. How many are
@@ -36,9 +34,9 @@ fn changes(reader: &mut FileReader, heap: Global) -> anyhow::Result<(usize, usiz
     let mut other = 0usize;
     let mut wrong = 0usize;
     for at in 0..88 {
-        for by in 1..256 {
+        for by in 1..=255u8 {
             let mut file = HOUSE;
-            file[at] = ((file[at] as usize + by) % 256) as u8;
+            file[at] = file[at].wrapping_add(by);
             let mut draft = Draft::new(heap)?;
             match reader.read(&file, &mut draft) {
                 Err(_) => refused = refused.saturating_add(1),
