@@ -1,9 +1,14 @@
 -- Along a chain the order holds of any two positions, by transitivity; so the last cell that waits has a lowest charge,
 -- and when the length falls by one it alone stops waiting.
-use Rattle.std.proofs.Common.{◌≡◌, ℕ, zero, suc, ◌+◌, ◌-◌, ◌<◌, ◌≤◌, Bool, true, List, length, get_or, sym, ap, ◌∙◌, inl, inr, arith}
+use Rattle.std.proofs.Common.{◌≡◌, ℕ, zero, suc, ◌+◌, ◌-◌, ◌<◌, ◌≤◌, Bool, true, List, length, get_or, Some, None, Option, MatchOption, false, rules, subst, sym, ap, ◌∙◌, inl, inr, arith}
 use Rattle.std.proofs.lemmas.Bool.{cases_eq}
 use Rattle.slots.specs.Order.{Ahead, ranked, Arranged}
 use Rattle.slots.specs.Waiting.{waits_of, InOrder}
+use Rattle.slots.specs.declared.lent.LentQueue.{LentQueue}
+use Rattle.slots.specs.Queues.{many_rows, what_waits, InRowOrder}
+use Rattle.slots.specs.Rows.{charges, cells, positions}
+use Rattle.slots.proofs.Ranks.{itself as itself_of}
+use lib.ListN.{length-map}
 use Rattle.queue.specs.Waits.{Taken}
 use Rattle.slots.proofs.Changes.{taken}
 use Rattle.slots.proofs.Top.{same_less}
@@ -29,3 +34,26 @@ module _ {C : Type 0} (within : C → C → Bool) (trans : (a b c : C) → withi
       within cs o.placed v hv
       (λ k b. along (Ahead (ranked true within) ch) (λ a b c p q d. trans _ _ _ (q d) (p d)) (λ a d. itself _) cs len o.arranged len k (len - 1) (omega arith) (omega arith) (omega arith))
       (o.placed.cell_within (len - 1) (omega arith)) (omega arith) (omega arith)
+
+-- another claim of each case
+recast : {A : Type 0} (o : Option A) {P P' : Type 0} {Q Q' : A → Type 0} → MatchOption o P Q → (P → P') → ((a : A) → Q a → Q' a) → MatchOption o P' Q'
+recast None p f h = f p
+recast (Some a) q f h = h a q
+
+-- when the last cell that waits leaves, one with a lowest charge does; where none leaves, none waits
+pub leaves : {C L : Type 0} (within : C → C → Bool) (trans : (a b c : C) → within a b ≡ true → within b c ≡ true → within a c ≡ true) (total : (a b : C) → within a b ≡ false → within b a ≡ true)
+    (q q' : LentQueue C L) (r : Option (ℕ × C)) → InRowOrder before (ranked true within) q
+    → MatchOption r ((q.len ≡ 0) × (q' ≡ q)) (λ p. (0 < q.len) × (q'.len ≡ q.len - 1) × (q'.rows ≡ q.rows) × (p.0 ≡ get_or (cells q.rows.now) (q.len - 1) 0) × ((d : C) → p.1 ≡ get_or (charges q.rows.now) p.0 d))
+    → MatchOption r (((k : ℕ) → what_waits q k ≡ None) × (q' ≡ q)) (λ p. (p.0 < many_rows q) × Taken within (what_waits q) (what_waits q') p.0 p.1)
+leaves within trans total q q' r order left =
+    recast r left (λ none. ((λ k. rw none.0 (Prim.search rules)), none.1))
+    (λ p at.
+    let rows = q.rows.now in
+    let len = q.len in
+    let last : len - 1 < length rows = omega (arith, at.0, order.within) in
+    let cell = at.3 in (
+      omega (arith, cell, order.placed.cell_within (len - 1) last),
+      rw (at.2, at.1) (subst (λ (m : ℕ). Taken within (waits_of (charges rows) (positions rows) len) (waits_of (charges rows) (positions rows) (len - 1)) m p.1) (sym cell)
+          (last_taken within trans (itself_of within total) (length rows) len (charges rows) (length-map rows (λ s. s.charge)) (cells rows) (positions rows) order at.0 p.1
+          (λ d. at.4 d ∙ ap (λ m. get_or (charges rows) m d) cell))),
+    ))

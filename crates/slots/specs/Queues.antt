@@ -1,10 +1,16 @@
 -- A queue over lent rows: what waits in it, and its row order. Stands on Waiting and the struct of a queue.
-use Rattle.std.specs.Prelude.{ℕ, Bool, Option, length}
+use Rattle.std.specs.Prelude.{◌≡◌, ℕ, Bool, List, [], ◌∷◌, Option, length}
+use Rattle.std.specs.Borrow.{GName}
 use Rattle.slots.specs.declared.lent.LentQueue.{LentQueue}
+use Rattle.slots.specs.Rows.{charges}
 use Rattle.slots.specs.Waiting.{waiting, RowOrder}
 
 abbrev pub many_rows : {C L : Type 0} → LentQueue C L → ℕ
 many_rows q = length q.rows.now
+
+-- the reference behind which the rows lie
+abbrev pub row_lenders : {C L : Type 0} → LentQueue C L → List GName
+row_lenders q = q.rows.ghost_name ∷ []
 
 abbrev pub what_waits : {C L : Type 0} → LentQueue C L → ℕ → Option C
 what_waits q = waiting q.rows.now q.len
@@ -12,3 +18,10 @@ what_waits q = waiting q.rows.now q.len
 -- the cells that wait stand along a tree in the order of their charges
 abbrev pub InRowOrder : {C L : Type 0} → (ℕ → ℕ) → (C → C → Bool) → LentQueue C L → Type 0
 InRowOrder up rank q = RowOrder up rank (many_rows q) q.rows.now q.len
+
+-- some cells have gone to other positions: of the same rows, as many positions hold a cell that waits, and each cell has the
+-- charge that it had
+pub record Rearranged {C L : Type 0} (q q' : LentQueue C L) : Type 0 where
+  pub lender : q'.rows.ghost_name ≡ q.rows.ghost_name
+  pub len : q'.len ≡ q.len
+  pub kept : charges q'.rows.now ≡ charges q.rows.now

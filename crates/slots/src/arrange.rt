@@ -1,9 +1,10 @@
 // Cells begin and cease to wait.
 ghost use Rattle.std.specs.Prelude.{◌≡◌, ◌-◌, ◌<◌, ◌≤◌, length, MatchOption, slice_index, slice_index_or, slice_set};
+ghost use Rattle.queue.specs.Rows.{SameRows};
 ghost use Rattle.queue.specs.Waits.{Put, Taken};
 ghost use Rattle.slots.specs.Rows.{charges, cells, positions};
 ghost use Rattle.slots.specs.Order.{Placed, ranked};
-ghost use Rattle.slots.specs.Queues.{many_rows, what_waits, InRowOrder};
+ghost use Rattle.slots.specs.Queues.{many_rows, row_lenders, what_waits, InRowOrder};
 
 use crate::layout::Layout;
 use crate::lent::LentQueue;
@@ -23,22 +24,11 @@ pub fn set_out<C: Charge>(rows: &mut [Slot<C>])
 }
 
 impl<C: Charge, L: Layout> LentQueue<'_, C, L> {
-    // The cell that stands at a position, with its charge; none where there is no such position.
-    #[tactic(auto, using(crate::proofs::Columns::reads))]
-    pub fn standing(&self, position: usize) -> Option<(usize, C)>
-        ensures { MatchOption result (many_rows self.now ≤ position) (λ p. (position < many_rows self.now) × (p.0 ≡ slice_index (cells self.now.rows.now) position) × ((d : C) → p.1 ≡ slice_index_or (charges self.now.rows.now) p.0 d)) }
-    {
-        if position >= self.rows.len() {
-            return None;
-        }
-        let cell = self.rows[position].cell;
-        Some((cell, self.rows[cell].charge))
-    }
-
     // `cell` has another charge, and stands where it stood.
     #[tactic(auto, using(crate::proofs::Columns::columns))]
     fn set_charge(&mut self, cell: usize, charge: C)
         requires { cell < many_rows self.old }
+        ensures lender { self.new.rows.ghost_name ≡ self.old.rows.ghost_name }
         ensures len { self.new.len ≡ self.old.len }
         ensures charges { charges self.new.rows.now ≡ slice_set (charges self.old.rows.now) cell charge }
         ensures cells { cells self.new.rows.now ≡ cells self.old.rows.now }
@@ -52,7 +42,7 @@ impl<C: Charge, L: Layout> LentQueue<'_, C, L> {
         requires order { InRowOrder L.Layout.up (ranked L.Layout.turned C.Charge.within) self.old }
         requires within { cell < many_rows self.old }
         requires apart { self.old.len ≤ slice_index (positions self.old.rows.now) cell }
-        ensures many { many_rows self.new ≡ many_rows self.old }
+        ensures rows { SameRows many_rows row_lenders self.old self.new }
         ensures order { InRowOrder L.Layout.up (ranked L.Layout.turned C.Charge.within) self.new }
         ensures put { Put (what_waits self.old) (what_waits self.new) cell charge }
     {
@@ -69,7 +59,7 @@ impl<C: Charge, L: Layout> LentQueue<'_, C, L> {
         requires order { InRowOrder L.Layout.up (ranked L.Layout.turned C.Charge.within) self.old }
         requires within { cell < many_rows self.old }
         requires waits { slice_index (positions self.old.rows.now) cell < self.old.len }
-        ensures many { many_rows self.new ≡ many_rows self.old }
+        ensures rows { SameRows many_rows row_lenders self.old self.new }
         ensures order { InRowOrder L.Layout.up (ranked L.Layout.turned C.Charge.within) self.new }
         ensures put { Put (what_waits self.old) (what_waits self.new) cell charge }
     {
@@ -87,7 +77,7 @@ impl<C: Charge, L: Layout> LentQueue<'_, C, L> {
     #[tactic(auto, using(crate::proofs::Columns::stands))]
     pub fn take_top(&mut self) -> Option<(usize, C)>
         requires { InRowOrder L.Layout.up (ranked L.Layout.turned C.Charge.within) self.old }
-        ensures many { many_rows self.new ≡ many_rows self.old }
+        ensures rows { SameRows many_rows row_lenders self.old self.new }
         ensures order { InRowOrder L.Layout.up (ranked L.Layout.turned C.Charge.within) self.new }
         ensures answer { MatchOption result ((self.old.len ≡ 0) × (self.new ≡ self.old)) (λ p. (0 < self.old.len) × (self.new.len ≡ self.old.len - 1) × (p.0 < many_rows self.old) × Taken (ranked L.Layout.turned C.Charge.within) (what_waits self.old) (what_waits self.new) p.0 p.1) }
     {
@@ -101,5 +91,16 @@ impl<C: Charge, L: Layout> LentQueue<'_, C, L> {
         self.len = last;
         self.sift_down(0);
         Some((cell, charge))
+    }
+
+    // The cell at the last position that waits leaves with its charge, and the rows stay as they are; none where no cell
+    // waits.
+    #[tactic(auto, using(crate::proofs::Columns::reads))]
+    pub fn take_last(&mut self) -> Option<(usize, C)>
+        ensures { MatchOption result ((self.old.len ≡ 0) × (self.new ≡ self.old)) (λ p. (0 < self.old.len) × (self.new.len ≡ self.old.len - 1) × (self.new.rows ≡ self.old.rows) × (p.0 ≡ slice_index (cells self.old.rows.now) (self.old.len - 1)) × ((d : C) → p.1 ≡ slice_index_or (charges self.old.rows.now) p.0 d)) }
+    {
+        self.len = self.len.checked_sub(1)?;
+        let cell = self.rows[self.len].cell;
+        Some((cell, self.rows[cell].charge))
     }
 }

@@ -1,7 +1,8 @@
 ghost use Rattle.std.specs.Prelude.{◌≡◌, ℕ, ◌<◌, ◌≤◌, Bool, MatchOption, None};
+ghost use Rattle.queue.specs.Rows.{SameRows};
 ghost use Rattle.queue.specs.Waits.{Taken};
 ghost use Rattle.slots.specs.Order.{Tree, ranked};
-ghost use Rattle.slots.specs.Queues.{many_rows, what_waits, InRowOrder};
+ghost use Rattle.slots.specs.Queues.{many_rows, row_lenders, what_waits, InRowOrder};
 
 use crate::lent::LentQueue;
 use charge::kind::Charge;
@@ -39,7 +40,7 @@ pub trait Leave: Layout {
     // A waiting cell leaves with its charge, than which no waiting charge is lower; none where no cell waits.
     fn take<C: Charge>(queue: &mut LentQueue<'_, C, Self>) -> Option<(usize, C)>
         requires { InRowOrder Self.up (ranked Self.turned C.Charge.within) queue.old }
-        ensures many { many_rows queue.new ≡ many_rows queue.old }
+        ensures rows { SameRows many_rows row_lenders queue.old queue.new }
         ensures ordered { InRowOrder Self.up (ranked Self.turned C.Charge.within) queue.new }
         ensures answer { MatchOption result (((k : ℕ) → what_waits queue.old k ≡ None) × (queue.new ≡ queue.old)) (λ p. (p.0 < many_rows queue.old) × Taken C.Charge.within (what_waits queue.old) (what_waits queue.new) p.0 p.1) };
 }

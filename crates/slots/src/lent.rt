@@ -1,4 +1,4 @@
-ghost use Rattle.std.specs.Prelude.{◌≡◌, ℕ, ◌≤◌, length, None};
+ghost use Rattle.std.specs.Prelude.{◌≡◌, ℕ, ◌≤◌, [], ◌∷◌, length, None};
 ghost use Rattle.slots.specs.Rows.{charges, cells, positions};
 ghost use Rattle.slots.specs.Order.{Placed, ranked};
 
@@ -13,9 +13,9 @@ use std::marker::PhantomData;
 // A priority queue over lent rows, for every charge kind and every layout: the cells at the first `len` positions wait.
 #[derive(Drop)]
 pub struct LentQueue<'a, C, L> {
-    pub rows: &'a mut [Slot<C>],
-    pub len: usize,
-    pub layout: PhantomData<L>,
+    pub(crate) rows: &'a mut [Slot<C>],
+    pub(crate) len: usize,
+    layout: PhantomData<L>,
     // each cell stands at one position
     ghost placed: { Placed (length rows.now) (cells rows.now) (positions rows.now) },
     // no more positions hold a cell that waits than there are rows
@@ -23,12 +23,13 @@ pub struct LentQueue<'a, C, L> {
 }
 
 impl<'a, C: Charge, L: Layout> LentQueue<'a, C, L> {
-    ghost use Rattle.slots.specs.Queues.{many_rows, what_waits, InRowOrder};
+    ghost use Rattle.slots.specs.Queues.{many_rows, row_lenders, what_waits, InRowOrder};
 
     // A queue in which no cell waits, whatever the rows held.
     pub fn over(rows: &'a mut [Slot<C>]) -> LentQueue<'a, C, L>
         ensures ordered { InRowOrder L.Layout.up (ranked L.Layout.turned C.Charge.within) result }
         ensures many { many_rows result ≡ length rows.old }
+        ensures lenders { row_lenders result ≡ rows.entry.ghost_name ∷ [] }
         ensures empty { (k : ℕ) → what_waits result k ≡ None }
     {
         set_out(rows);
@@ -41,7 +42,7 @@ impl<'a, C: Charge, L: Layout> LentQueue<'a, C, L> {
 }
 
 impl<C: Charge, L: Leave> PriorityQueue for LentQueue<'_, C, L> {
-    ghost use Rattle.slots.specs.Queues.{many_rows, what_waits, InRowOrder};
+    ghost use Rattle.slots.specs.Queues.{many_rows, row_lenders, what_waits, InRowOrder};
 
     type Charge = C;
 
@@ -50,6 +51,8 @@ impl<C: Charge, L: Leave> PriorityQueue for LentQueue<'_, C, L> {
     ghost ordered = { InRowOrder L.Layout.up (ranked L.Layout.turned C.Charge.within) };
 
     ghost many = { many_rows };
+
+    ghost lenders = { row_lenders };
 
     fn rows(&self) -> usize {
         self.rows.len()

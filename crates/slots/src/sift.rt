@@ -1,7 +1,7 @@
 // A cell that stands too low or too high goes to its position, by exchanges along the tree.
 ghost use Rattle.std.specs.Prelude.{◌≡◌, ◌<◌, length, slice_index, slice_index_or, slice_set};
 ghost use Rattle.slots.specs.Rows.{charges, cells, positions};
-ghost use Rattle.slots.specs.Queues.{many_rows};
+ghost use Rattle.slots.specs.Queues.{many_rows, Rearranged};
 ghost use Rattle.slots.specs.Order.{Ahead, SameWait, Exchanged, Arranged, Rising, Sinking, Foremost, ranked};
 
 use crate::layout::Layout;
@@ -41,8 +41,7 @@ impl<C: Charge, L: Layout> LentQueue<'_, C, L> {
     pub(crate) fn exchange(&mut self, i: usize, j: usize)
         requires i_within { i < many_rows self.old }
         requires j_within { j < many_rows self.old }
-        ensures len { self.new.len ≡ self.old.len }
-        ensures charges { charges self.new.rows.now ≡ charges self.old.rows.now }
+        ensures rearranged { Rearranged self.old self.new }
         ensures exchanged { Exchanged (cells self.old.rows.now) (positions self.old.rows.now) (cells self.new.rows.now) (positions self.new.rows.now) i j }
     {
         let rows = &mut *self.rows;
@@ -56,8 +55,7 @@ impl<C: Charge, L: Layout> LentQueue<'_, C, L> {
     pub(crate) fn sift_up(&mut self, at: usize)
         requires below { at < self.old.len }
         requires rising { Rising L.Layout.up (Ahead (ranked L.Layout.turned C.Charge.within) (charges self.old.rows.now)) (cells self.old.rows.now) self.old.len at }
-        ensures len { self.new.len ≡ self.old.len }
-        ensures charges { charges self.new.rows.now ≡ charges self.old.rows.now }
+        ensures rearranged { Rearranged self.old self.new }
         ensures arranged { Arranged L.Layout.up (Ahead (ranked L.Layout.turned C.Charge.within) (charges self.old.rows.now)) (cells self.new.rows.now) self.old.len }
         ensures same { SameWait self.old.len (positions self.old.rows.now) (positions self.new.rows.now) }
     {
@@ -96,8 +94,7 @@ impl<C: Charge, L: Layout> LentQueue<'_, C, L> {
     // The cell at the position `at` goes down as far as it belongs.
     pub(crate) fn sift_down(&mut self, at: usize)
         requires { Sinking L.Layout.up (Ahead (ranked L.Layout.turned C.Charge.within) (charges self.old.rows.now)) (cells self.old.rows.now) self.old.len at }
-        ensures len { self.new.len ≡ self.old.len }
-        ensures charges { charges self.new.rows.now ≡ charges self.old.rows.now }
+        ensures rearranged { Rearranged self.old self.new }
         ensures arranged { Arranged L.Layout.up (Ahead (ranked L.Layout.turned C.Charge.within) (charges self.old.rows.now)) (cells self.new.rows.now) self.old.len }
         ensures same { SameWait self.old.len (positions self.old.rows.now) (positions self.new.rows.now) }
     {

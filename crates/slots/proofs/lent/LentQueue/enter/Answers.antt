@@ -21,7 +21,7 @@ sift_up-requires-clause-rising g c =
     let s = c.set_charge.ensures in
     let x = told s.cells s.positions (read (λ s. s.position) rows c.args.cell c.index-self-cell.result 0 c.requires.within) c.exchange.ensures.exchanged in
     let r = rising up g.L.Layout.down g.met.L.Layout.tree rank (length rows) queue.len c.args.cell (charges rows) c.args.charge (cells rows) (positions rows) (cells mid) (positions mid) c.requires.order c.requires.within c.requires.apart x in
-    rw (c.exchange.ensures.charges ∙ s.charges) r
+    rw (c.exchange.ensures.rearranged.kept ∙ s.charges) r
 
 pub returns-clause-put : goal.returns-clause-put
 returns-clause-put g c =
@@ -34,4 +34,4 @@ returns-clause-put g c =
     let u = c.sift_up.ensures in
     let x = told s.cells s.positions (read (λ s. s.position) rows c.args.cell c.index-self-cell.result 0 c.requires.within) c.exchange.ensures.exchanged in
     let p = entered g.L.Layout.up g.L.Layout.down g.met.L.Layout.tree rank (length rows) queue.len c.args.cell (charges rows) c.args.charge (cells rows) (positions rows) (cells mid) (positions mid) c.requires.order c.requires.within c.requires.apart x (positions last) (length-map rows (λ s. s.charge)) u.same in
-    rw (u.len, u.charges ∙ c.exchange.ensures.charges ∙ s.charges) p
+    rw (u.rearranged.len, u.rearranged.kept ∙ c.exchange.ensures.rearranged.kept ∙ s.charges) p

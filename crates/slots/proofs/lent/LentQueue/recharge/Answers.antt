@@ -31,10 +31,10 @@ pub returns-then-may_top-clause-put : goal.returns-then-may_top-clause-put
 returns-then-may_top-clause-put g c =
     let s = c.set_charge.ensures in
     let u = c.sift_up.ensures in
-    rw (u.len ∙ s.len) (waits_anew _ _ _ (length-map c.args.self.now.rows.now (λ r. r.charge)) c.requires.within c.requires.waits (u.charges ∙ s.charges) (simp (s.len, s.positions) at u.same))
+    rw (u.rearranged.len ∙ s.len) (waits_anew _ _ _ (length-map c.args.self.now.rows.now (λ r. r.charge)) c.requires.within c.requires.waits (u.rearranged.kept ∙ s.charges) (simp (s.len, s.positions) at u.same))
 
 pub returns-else-may_top-clause-put : goal.returns-else-may_top-clause-put
 returns-else-may_top-clause-put g c =
     let s = c.set_charge.ensures in
     let u = c.sift_down.ensures in
-    rw (u.len ∙ s.len) (waits_anew _ _ _ (length-map c.args.self.now.rows.now (λ r. r.charge)) c.requires.within c.requires.waits (u.charges ∙ s.charges) (simp (s.len, s.positions) at u.same))
+    rw (u.rearranged.len ∙ s.len) (waits_anew _ _ _ (length-map c.args.self.now.rows.now (λ r. r.charge)) c.requires.within c.requires.waits (u.rearranged.kept ∙ s.charges) (simp (s.len, s.positions) at u.same))

@@ -19,8 +19,8 @@ returns-then-ahead-clause-arranged g c =
     let low = c.foremost-low.result in
     let len = c.args.self.now.len in
     let cs = cells c.loop-first.self.rows.now in
-    let l : Foremost up R cs len i low = simp (inv.kept, inv.len) at c.foremost-low.ensures in
-    rests up g.L.Layout.down g.met.L.Layout.tree R tr cs len i low l inv.sinking (λ d. let e = c.if-ahead.ensures d in let q = inv.kept in cc)
+    let l : Foremost up R cs len i low = simp (inv.rearranged.kept, inv.rearranged.len) at c.foremost-low.ensures in
+    rests up g.L.Layout.down g.met.L.Layout.tree R tr cs len i low l inv.sinking (λ d. let e = c.if-ahead.ensures d in let q = inv.rearranged.kept in cc)
 
 pub loop-first-preserved : goal.loop-first-preserved
 loop-first-preserved g c =
@@ -36,12 +36,15 @@ loop-first-preserved g c =
     let rows = c.loop-first.self.rows.now in
     let last = c.exchange.new.self.rows.now in
     let x = c.exchange.ensures.exchanged in
-    let l : Foremost up R (cells rows) len i low = simp (inv.kept, inv.len) at c.foremost-low.ensures in
+    let l : Foremost up R (cells rows) len i low = simp (inv.rearranged.kept, inv.rearranged.len) at c.foremost-low.ensures in
     let low-in : low < len = l.within in
     record {
-      len = c.exchange.ensures.len ∙ inv.len;
-      kept = c.exchange.ensures.charges ∙ inv.kept;
+      rearranged = record {
+        lender = c.exchange.ensures.rearranged.lender ∙ inv.rearranged.lender;
+        len = c.exchange.ensures.rearranged.len ∙ inv.rearranged.len;
+        kept = c.exchange.ensures.rearranged.kept ∙ inv.rearranged.kept;
+      };
       sinking = sunk up g.L.Layout.down g.met.L.Layout.tree R tr (cells rows) (positions rows) (cells last) (positions last) len i low l x inv.sinking
-          (λ d. let e = c.if-ahead.ensures d in let q = inv.kept in ranked_total g.C.Charge.within g.met.C.Charge.total g.L.Layout.turned _ _ (cc));
+          (λ d. let e = c.if-ahead.ensures d in let q = inv.rearranged.kept in ranked_total g.C.Charge.within g.met.C.Charge.total g.L.Layout.turned _ _ (cc));
       same = λ k. same_wait (length rows) (cells rows) (positions rows) (cells last) (positions last) i low c.loop-first.self.placed (omega arith) (omega arith) x len (omega arith) low-in k ∙ inv.same k;
     }

@@ -1,6 +1,7 @@
 -- the cell at `i` may belong lower, and all else is in order
-use Rattle.std.proofs.Common.{◌≡◌, ◌-◌}
+use Rattle.std.proofs.Common.{◌-◌}
 use Rattle.slots.specs.Order.{Sinking, Ahead, SameWait, ranked}
+use Rattle.slots.specs.Queues.{Rearranged}
 use Rattle.slots.specs.Rows.{cells, positions, charges}
 use Rattle.slots.proofs.lent.LentQueue.sift_down.Given as goal
 
@@ -9,8 +10,7 @@ invariant-loop-first g l =
     let before = l.initial.self in
     let rows = l.self.rows.now in
     record {
-      len : l.self.len ≡ before.len;
-      kept : charges rows ≡ charges before.rows.now;
+      rearranged : Rearranged before l.self;
       sinking : Sinking g.L.Layout.up (Ahead (ranked g.L.Layout.turned g.C.Charge.within) (charges before.rows.now)) (cells rows) before.len l.i;
       same : SameWait before.len (positions before.rows.now) (positions rows);
     }

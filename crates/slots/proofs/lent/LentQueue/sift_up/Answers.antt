@@ -26,11 +26,14 @@ loop-i-preserved g c =
     let lower = tree.earlier i pos in
     let x : Exchanged (cells rows) (positions rows) (cells last) (positions last) (up i) i = subst (λ (m : ℕ). Exchanged (cells rows) (positions rows) (cells last) (positions last) m i) is c.exchange.ensures.exchanged in
     let r = risen up g.L.Layout.down tree R tr (cells rows) (positions rows) (cells last) (positions last) len i pos inv.below x inv.rising
-    (λ d. let e = c.if-ahead.ensures d in let q = inv.kept in ranked_total within g.met.C.Charge.total turned _ _ (cc)) in
+    (λ d. let e = c.if-ahead.ensures d in let q = inv.rearranged.kept in ranked_total within g.met.C.Charge.total turned _ _ (cc)) in
     record {
       below = omega arith;
-      len = c.exchange.ensures.len ∙ inv.len;
-      kept = c.exchange.ensures.charges ∙ inv.kept;
+      rearranged = record {
+        lender = c.exchange.ensures.rearranged.lender ∙ inv.rearranged.lender;
+        len = c.exchange.ensures.rearranged.len ∙ inv.rearranged.len;
+        kept = c.exchange.ensures.rearranged.kept ∙ inv.rearranged.kept;
+      };
       rising = subst (λ (m : ℕ). Rising up R (cells last) len m) (sym is) r;
       same = λ k. same_wait (length rows) (cells rows) (positions rows) (cells last) (positions last) (up i) i c.loop-i.self.placed (omega arith) (omega arith) x len (omega arith) (omega arith) k ∙ inv.same k;
     }

@@ -26,7 +26,7 @@ returns-clause-answer g c =
     let p = top_taken g.L.Layout.up g.L.Layout.down g.met.L.Layout.tree rank (length rows) len (charges rows) (cells rows) (positions rows) (cells mid) (positions mid) c.requires some c.exchange.ensures.exchanged
     (ranked_transitive within g.met.C.Charge.transitive turned) (itself rank (ranked_total within g.met.C.Charge.total turned)) _ (λ d. read (λ s. s.charge) rows _ c.index-self-cell.result d in_rows ∙ ap (λ m. get_or (charges rows) m d) top) (length-map rows (λ s. s.charge)) (positions last) u.same in (
       some,
-      u.len,
+      u.rearranged.len,
       in_rows,
-      rw (u.len, u.charges ∙ c.exchange.ensures.charges) (rw (← top) at p),
+      rw (u.rearranged.len, u.rearranged.kept ∙ c.exchange.ensures.rearranged.kept) (rw (← top) at p),
     )
