@@ -4,38 +4,34 @@ ghost use Rattle.site.specs.Whole.{kind_of};
 ghost use Rattle.search.specs.Rows.{Room};
 ghost use Rattle.search.specs.Lends.{lent, SameLenders};
 ghost use Rattle.planner.specs.Outcome.{Handed, NoLawful, Outcome};
+ghost use Rattle.planner.specs.Work.{SameWork};
 
+use crate::asked::Asked;
 use crate::planned::Planned;
-use crate::seek::seek;
-use crate::start::begin;
-use crate::trace::trace;
-use charge::kind::Charge;
+use crate::work::Work;
 use queue::queue::PriorityQueue;
 use refusal::Refusal;
-use search::cell::Row;
 use search::check::rows_needed;
 use search::memory::Memory;
 use site::run::{Request, Step};
 use site::site::Site;
 
-// Searches for a least run where there is room for every cell, and writes it.
-fn search<S: Site, Q: PriorityQueue<Charge = S::Charge>>(
-    site: &S,
-    request: Request,
-    cells: &mut [Row<S::Charge>],
-    queue: &mut Q,
-    run: &mut [Step],
-) -> Result<Planned<S::Charge>, Refusal>
-    requires room { Room (S.Site.meaning site.now) request (length cells.old) (Q.PriorityQueue.many queue.old) }
-    requires start { request.start < (S.Site.meaning site.now).places }
-    requires steps { length cells.old ≤ length run.old }
-    ensures many { Q.PriorityQueue.many queue.new ≡ Q.PriorityQueue.many queue.old }
-    ensures answer { MatchResult result (λ p. Handed (kind_of S.Charge.Charge) (S.Site.meaning site.now) request run.old run.new p) (λ e. (e ≡ NoRun) × NoLawful (S.Site.meaning site.now) request × (run.new ≡ run.old)) }
-{
-    begin(site, request, cells, queue);
-    match seek(site, request, cells, queue) {
-        None => Err(Refusal::NoRun),
-        Some(last) => Ok(trace(site, &request, cells, last, run)),
+impl<S: Site> Asked<'_, S> {
+    // Searches for a least run where there is room for every cell, and writes it.
+    fn search<Q: PriorityQueue<Charge = S::Charge>>(
+        &self,
+        work: &mut Work<'_, '_, S::Charge, Q>,
+        run: &mut [Step],
+    ) -> Result<Planned<S::Charge>, Refusal>
+        requires room { Room (S.Site.meaning self.now.site.now) self.now.request (length work.old.cells.now) (Q.PriorityQueue.many work.old.queue.now) }
+        requires start { self.now.request.start < (S.Site.meaning self.now.site.now).places }
+        requires steps { length work.old.cells.now ≤ length run.old }
+        ensures same { SameWork Q.PriorityQueue.many Q.PriorityQueue.lenders work.old work.new }
+        ensures answer { MatchResult result (λ p. Handed (kind_of S.Charge.Charge) (S.Site.meaning self.now.site.now) self.now.request run.old run.new p) (λ e. (e ≡ NoRun) × NoLawful (S.Site.meaning self.now.site.now) self.now.request × (run.new ≡ run.old)) }
+    {
+        self.begin(work);
+        let last = self.seek(work).ok_or(Refusal::NoRun)?;
+        Ok(self.trace(&*work, last, run))
     }
 }
 
@@ -46,7 +42,7 @@ pub fn plan<S: Site, Q: PriorityQueue<Charge = S::Charge>>(
     memory: &mut Memory<'_, S::Charge, Q>,
 ) -> Result<Planned<S::Charge>, Refusal>
     ensures outcome { Outcome (kind_of S.Charge.Charge) Q.PriorityQueue.many (S.Site.meaning site.now) request (lent memory.old) (lent memory.new) result }
-    ensures same { SameLenders memory.old memory.new }
+    ensures same { SameLenders Q.PriorityQueue.lenders memory.old memory.new }
 {
     let rows = rows_needed(
         site,
@@ -55,6 +51,9 @@ pub fn plan<S: Site, Q: PriorityQueue<Charge = S::Charge>>(
         memory.queue.rows(),
         memory.run.len(),
     )?;
+    let asked = Asked { site, request };
     let cells = &mut memory.cells[..rows];
-    search(site, request, cells, &mut memory.queue, memory.run)
+    let queue = &mut memory.queue;
+    let mut work = Work { cells, queue };
+    asked.search(&mut work, memory.run)
 }

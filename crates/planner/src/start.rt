@@ -1,17 +1,15 @@
-ghost use Rattle.std.specs.Prelude.{◌≡◌, ◌<◌, min, length, replicate};
+ghost use Rattle.std.specs.Prelude.{◌≡◌, ◌<◌, length, replicate};
 ghost use Rattle.site.specs.Whole.{kind_of};
-ghost use Rattle.search.specs.Search.{Searching};
-ghost use Rattle.search.specs.Rows.{Room, Books, done_in};
-ghost use Rattle.search.specs.Columns.{cells_of, heads_of, nexts_of, blank_row};
-ghost use Rattle.search.specs.Index.{Indexed};
+ghost use Rattle.search.specs.Rows.{Room};
+ghost use Rattle.search.specs.Columns.{blank_row};
+ghost use Rattle.planner.specs.Work.{Ready, SameWork, AtRest};
 
+use crate::asked::Asked;
 use crate::index::build;
-use crate::number::cell_of;
-use crate::offer::wait;
+use crate::work::Work;
 use charge::kind::Charge;
 use queue::queue::PriorityQueue;
 use search::cell::{Reached, Row};
-use site::run::Request;
 use site::site::Site;
 
 // Makes every row blank, whatever it held.
@@ -23,33 +21,26 @@ fn clear<C: Charge>(cells: &mut [Row<C>])
     }
 }
 
-// Prepares rows and queue: the ways are indexed, and the start's cell with no loss waits alone, with the charge nothing.
-pub fn begin<S: Site, Q: PriorityQueue<Charge = S::Charge>>(
-    site: &S,
-    request: Request,
-    cells: &mut [Row<S::Charge>],
-    queue: &mut Q,
-)
-    requires room { Room (S.Site.meaning site.now) request (length cells.old) (Q.PriorityQueue.many queue.old) }
-    requires start { request.start < (S.Site.meaning site.now).places }
-    ensures ordered { Q.PriorityQueue.ordered queue.new }
-    ensures many { Q.PriorityQueue.many queue.new ≡ Q.PriorityQueue.many queue.old }
-    ensures indexed { Indexed (S.Site.meaning site.now) (heads_of cells.new) (nexts_of cells.new) (min (S.Site.meaning site.now).ways (length cells.old)) }
-    ensures searching { Searching (kind_of S.Charge.Charge) (S.Site.meaning site.now) request (done_in (cells_of cells.new)) (Q.PriorityQueue.waits queue.new) }
-    ensures books { Books (kind_of S.Charge.Charge) (S.Site.meaning site.now) request (cells_of cells.new) (Q.PriorityQueue.waits queue.new) }
-{
-    clear(cells);
-    build(site, cells);
-    queue.clear();
-    let first = cell_of(request, request.start, 0);
-    wait(
-        cells,
-        queue,
-        first,
-        Reached {
-            charge: S::Charge::nothing(),
-            link: None,
-            steps: 0,
-        },
-    );
+impl<S: Site> Asked<'_, S> {
+    // Prepares rows and queue: the ways are indexed, and the start's cell with no loss waits alone, with the charge nothing.
+    pub fn begin<Q: PriorityQueue<Charge = S::Charge>>(&self, work: &mut Work<'_, '_, S::Charge, Q>)
+        requires room { Room (S.Site.meaning self.now.site.now) self.now.request (length work.old.cells.now) (Q.PriorityQueue.many work.old.queue.now) }
+        requires start { self.now.request.start < (S.Site.meaning self.now.site.now).places }
+        ensures ready { Ready (S.Site.meaning self.now.site.now) self.now.request Q.PriorityQueue.many Q.PriorityQueue.ordered work.new }
+        ensures same { SameWork Q.PriorityQueue.many Q.PriorityQueue.lenders work.old work.new }
+        ensures rest { AtRest (kind_of S.Charge.Charge) (S.Site.meaning self.now.site.now) self.now.request Q.PriorityQueue.waits work.new }
+    {
+        clear(work.cells);
+        build(self.site, work.cells);
+        work.queue.clear();
+        let first = self.cell_of(self.request.start, 0);
+        work.wait(
+            first,
+            Reached {
+                charge: S::Charge::nothing(),
+                link: None,
+                steps: 0,
+            },
+        );
+    }
 }

@@ -4,46 +4,54 @@ ghost use Rattle.site.specs.Whole.{kind_of};
 ghost use Rattle.search.specs.Rows.{Found, reached_in};
 ghost use Rattle.search.specs.Columns.{cells_of};
 
-use crate::offer::reached_at;
+use crate::asked::Asked;
 use crate::planned::Planned;
+use crate::work::Work;
 use charge::kind::Charge;
-use search::cell::{Link, Reached, Row};
-use site::run::{Request, Step};
+use queue::queue::PriorityQueue;
+use search::cell::{Link, Reached};
+use site::run::Step;
 use site::site::Site;
 
 // Goes back over a link: writes its step at the place `at`, and answers how the cell that it was taken from was reached.
-fn one_back<C: Charge>(cells: &[Row<C>], link: Link, run: &mut [Step], at: usize) -> Reached<C>
+fn one_back<C: Charge, Q: PriorityQueue<Charge = C>>(
+    work: &Work<'_, '_, C, Q>,
+    link: Link,
+    run: &mut [Step],
+    at: usize,
+) -> Reached<C>
     requires inside { at < length run.old }
-    requires reached { IsSome (reached_in (cells_of cells.now) link.from) }
+    requires reached { IsSome (reached_in (cells_of work.now.cells.now) link.from) }
     ensures wrote { run.new ≡ slice_set run.old at link.step }
-    ensures reached { reached_in (cells_of cells.now) link.from ≡ Some result }
+    ensures reached { reached_in (cells_of work.now.cells.now) link.from ≡ Some result }
 {
     run[at] = link.step;
-    reached_at(cells, link.from)
+    work.reached_at(link.from)
 }
 
-// Writes the run that led to the cell `last`, from its last step to its first, and answers its length and its total.
-pub fn trace<S: Site>(
-    site: &S,
-    request: &Request,
-    cells: &[Row<S::Charge>],
-    last: usize,
-    run: &mut [Step],
-) -> Planned<S::Charge>
-    requires found { Found (kind_of S.Charge.Charge) (S.Site.meaning site.now) request.now (cells_of cells.now) last }
-    requires room { length cells.now ≤ length run.old }
-    ensures steps { result.steps ≤ length run.old }
-    ensures least { Least (kind_of S.Charge.Charge) (S.Site.meaning site.now) request.now (take result.steps run.new) result.total }
-    ensures once { NoneTwice (S.Site.meaning site.now) request.now.start 0 (take result.steps run.new) }
-    ensures behind { drop result.steps run.new ≡ drop result.steps run.old }
-{
-    let end = reached_at(cells, last);
-    let mut here = end;
-    for left in (0..end.steps).rev() {
-        here = one_back(cells, here.link.unwrap(), run, left);
-    }
-    Planned {
-        steps: end.steps,
-        total: end.charge,
+impl<S: Site> Asked<'_, S> {
+    // Writes the run that led to the cell `last`, from its last step to its first, and answers its length and its total.
+    pub fn trace<Q: PriorityQueue<Charge = S::Charge>>(
+        &self,
+        work: &Work<'_, '_, S::Charge, Q>,
+        last: usize,
+        run: &mut [Step],
+    ) -> Planned<S::Charge>
+        requires found { Found (kind_of S.Charge.Charge) (S.Site.meaning self.now.site.now) self.now.request (cells_of work.now.cells.now) last }
+        requires room { length work.now.cells.now ≤ length run.old }
+        ensures steps { result.steps ≤ length run.old }
+        ensures least { Least (kind_of S.Charge.Charge) (S.Site.meaning self.now.site.now) self.now.request (take result.steps run.new) result.total }
+        ensures once { NoneTwice (S.Site.meaning self.now.site.now) self.now.request.start 0 (take result.steps run.new) }
+        ensures behind { drop result.steps run.new ≡ drop result.steps run.old }
+    {
+        let end = work.reached_at(last);
+        let mut here = end;
+        for left in (0..end.steps).rev() {
+            here = one_back(work, here.link.unwrap(), run, left);
+        }
+        Planned {
+            steps: end.steps,
+            total: end.charge,
+        }
     }
 }

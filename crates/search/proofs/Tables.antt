@@ -10,6 +10,7 @@ use Rattle.queue.specs.Waits.{Put}
 use Rattle.search.specs.Search.{Laws}
 use Rattle.search.specs.Rows.{settled_as, waits_as, settled_row, waits_row, done_in, Agree, Offering, improves, Room}
 use Rattle.search.specs.Columns.{SameIndex, cells_of, heads_of, nexts_of, blank_row}
+use Rattle.std.specs.Borrow.{GName}
 use Rattle.search.specs.Lends.{SameLenders}
 use Rattle.search.specs.declared.memory.Memory.{Memory}
 use Rattle.search.specs.Index.{Indexed}
@@ -116,8 +117,8 @@ nth_column f (s ∷ ss) (suc i) d h = nth_column f ss i d (omega arith)
 pub same_index : {C : Type 0} {a b c : List (Row C)} → SameIndex a b → SameIndex b c → SameIndex a c
 same_index p q = record { heads = q.heads ∙ p.heads; nexts = q.nexts ∙ p.nexts }
 
-pub same_lenders : {C Q : Type 0} {a b c : Memory C Q} → SameLenders a b → SameLenders b c → SameLenders a c
-same_lenders p q = record { cells = q.cells ∙ p.cells; run = q.run ∙ p.run; many_cells = q.many_cells ∙ p.many_cells; many_steps = q.many_steps ∙ p.many_steps }
+pub same_lenders : {C Q : Type 0} {lenders : Q → List GName} {a b c : Memory C Q} → SameLenders lenders a b → SameLenders lenders b c → SameLenders lenders a c
+same_lenders p q = record { cells = q.cells ∙ p.cells; queue = q.queue ∙ p.queue; run = q.run ∙ p.run; many_cells = q.many_cells ∙ p.many_cells; many_steps = q.many_steps ∙ p.many_steps }
 
 pub room_kept : {C : Type 0} (m : SiteMeaning C) (ask : Request) (n n' many many' : ℕ) → n' ≡ n → many' ≡ many → Room m ask n many → Room m ask n' many'
 room_kept m ask n n' many many' p q r = record { bound = r.bound; fits = omega (arith, r.fits); rows_suffice = omega (arith, r.rows_suffice); queue_suffices = omega (arith, r.queue_suffices) }

@@ -1,5 +1,6 @@
 -- What a caller lends to a plan, as the rows and the queue behind its references. Stands on nothing but the rows.
 use Rattle.std.specs.Prelude.{◌≡◌, List, length}
+use Rattle.std.specs.Borrow.{GName}
 use Rattle.site.specs.declared.run.Step.{Step}
 use Rattle.search.specs.declared.cell.Row.{Row}
 use Rattle.search.specs.declared.memory.Memory.{Memory}
@@ -13,9 +14,10 @@ pub record Lent (C Q : Type 0) : Type 0 where
 abbrev pub lent : {C Q : Type 0} → Memory C Q → Lent C Q
 lent m = record { cells = m.cells.now; queue = m.queue; run = m.run.now }
 
--- the same rows are lent as before, as many of them
-pub record SameLenders {C Q : Type 0} (m m' : Memory C Q) : Type 0 where
+-- the same rows are lent as before, as many of them; `lenders x` are the references behind which the rows of a queue x lie
+pub record SameLenders {C Q : Type 0} (lenders : Q → List GName) (m m' : Memory C Q) : Type 0 where
   pub cells : m'.cells.ghost_name ≡ m.cells.ghost_name
+  pub queue : lenders m'.queue ≡ lenders m.queue
   pub run : m'.run.ghost_name ≡ m.run.ghost_name
   pub many_cells : length m'.cells.now ≡ length m.cells.now
   pub many_steps : length m'.run.now ≡ length m.run.now

@@ -1,0 +1,77 @@
+-- After clearing, indexing and one put, the start's cell alone waits, with nothing: the state in which a search begins.
+use Rattle.std.proofs.Common.{◌≡◌, ℕ, ◌+◌, ◌*◌, ◌<◌, min, List, None, length, replicate, set, sym, refl, ap, ◌∙◌, subst, arith}
+use lib.Arith.{digits_lt}
+use lib.ListN.{length-map}
+use Rattle.search.proofs.Tables.{room_kept, indexed_kept, blank_cells, blank_heads}
+use Rattle.site.specs.Whole.{kind_of}
+use Rattle.queue.specs.Waits.{Put}
+use Rattle.search.specs.Search.{Laws}
+use Rattle.search.specs.declared.cell.Cell.{Cell}
+use Rattle.search.specs.declared.cell.Cell.TheVariants.{Waiting}
+use Rattle.search.specs.declared.cell.Reached.{Reached}
+use Rattle.search.specs.Columns.{cells_of, blank_row}
+use Rattle.search.proofs.Trails.{cell_place, cell_loss}
+use Rattle.search.proofs.Turns.{start_books, start_search}
+use Rattle.planner.proofs.asked.Asked.begin.Given as given
+use Rattle.planner.proofs.asked.Asked.begin.Goals as goal
+
+laws_of : (g : given.Over) → Laws (kind_of g.S.Charge.Charge)
+laws_of g =
+    let met = g.met.S.Charge.Charge in
+    record { total = met.total; transitive = met.transitive; monotone = met.monotone; rising = met.rising }
+
+pub returns : goal.returns
+returns g c =
+    let k = kind_of g.S.Charge.Charge in
+    let laws = laws_of g in
+    let m = g.S.Site.meaning c.args.self.now.site.now in
+    let ask = c.args.self.now.request in
+    let n = length c.args.work.now.cells.now in
+    let h : 0 < ask.bound + 1 = omega arith in
+    let lt : ask.start * (ask.bound + 1) + 0 < m.places * (ask.bound + 1) = digits_lt c.requires.start h in
+    let rows : List (Cell g.row.S-Charge.Denot) = cells_of (replicate n blank_row) in
+    let rows' = cells_of c.wait.new.self.cells.now in
+    let at = c.cell_of-first.result in
+    let empty = g.Q.PriorityQueue.waits c.clear-2.new.self in
+    let waits = g.Q.PriorityQueue.waits c.wait.new.self.queue.now in
+    let new : Reached g.row.S-Charge.Denot = record { charge = c.nothing.result; link = None; steps = 0 } in
+    let was : cells_of c.build.new.work.cells.now ≡ rows = c.build.ensures.cells ∙ ap cells_of c.clear.ensures in
+    let size : length rows ≡ n = length-map (replicate n blank_row) (λ r. r.cell) ∙ sym (ap length c.clear.ensures) ∙ c.clear.auto.cells in
+    let inside : at < length rows = omega (arith, c.cell_of-first.ensures, c.requires.room.rows_suffice) in
+    let many_cells = c.wait.ensures.same.many_cells ∙ c.build.auto.cells ∙ c.clear.auto.cells in
+    let written = c.wait.ensures.cells ∙ ap (λ rs. set rs at (Waiting new)) was in
+    let put = subst (λ z. Put empty waits at z) c.nothing.ensures c.wait.ensures.put in
+    let place = cell_place ask ask.start 0 at (omega arith) c.cell_of-first.ensures in
+    let loss = cell_loss ask ask.start 0 at (omega arith) c.cell_of-first.ensures in
+    record {
+      ready = record {
+        room = room_kept m ask _ _ _ _ many_cells (c.wait.ensures.same.rows.as_many ∙ c.clear-2.ensures.rows.as_many) c.requires.room;
+        ordered = c.wait.ensures.ordered;
+        indexed = indexed_kept m _ _ _ _ (ap (λ (z : ℕ). min m.ways z) (sym c.wait.ensures.same.many_cells)) c.wait.ensures.index c.build.ensures.indexed;
+      };
+      same = record { cells = refl; queue = refl; many_cells = many_cells; rows = record { as_many = c.wait.ensures.same.rows.as_many ∙ c.clear-2.ensures.rows.as_many; same_lenders = c.wait.ensures.same.rows.same_lenders ∙ c.clear-2.ensures.rows.same_lenders } };
+      rest = record {
+        searching = start_search k laws m ask rows rows' empty waits at new inside (blank_cells n) written c.clear-2.ensures.empty put c.nothing.ensures refl refl place loss;
+        books = start_books k laws m ask rows rows' empty waits at new inside (blank_cells n) written c.clear-2.ensures.empty put c.nothing.ensures refl refl place loss;
+      };
+    }
+
+pub build-requires-clause-empty : goal.build-requires-clause-empty
+build-requires-clause-empty g c = λ p. rw c.clear.ensures (blank_heads g.row.S-Charge.Denot (length c.args.work.now.cells.now) p)
+
+pub wait-requires : goal.wait-requires
+wait-requires g c =
+    let m = g.S.Site.meaning c.args.self.now.site.now in
+    let h : 0 < c.args.self.now.request.bound + 1 = omega arith in
+    let lt : c.args.self.now.request.start * (c.args.self.now.request.bound + 1) + 0 < m.places * (c.args.self.now.request.bound + 1) = digits_lt c.requires.start h in
+    record {
+      inside = omega (arith, c.cell_of-first.ensures, c.requires.room.rows_suffice, c.clear.auto.cells, c.build.auto.cells);
+      room = omega (arith, c.cell_of-first.ensures, c.requires.room.queue_suffices, c.clear-2.ensures.rows.as_many);
+      ordered = c.clear-2.ensures.ordered;
+    }
+
+pub cell_of-first-requires : goal.cell_of-first-requires
+cell_of-first-requires g c =
+    let b = g.S.Site.bounded c.args.self.now.site.now in
+    let f = b.few_places in
+    record { place = omega (arith, c.requires.start); loss = omega arith }

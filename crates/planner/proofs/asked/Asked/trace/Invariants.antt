@@ -1,0 +1,14 @@
+-- The steps written so far are a trail from the cell `at` to the end; as many are left as that cell has steps.
+use Rattle.std.proofs.Common.{◌≡◌, ℕ, take, drop, Some}
+use Rattle.site.specs.Whole.{kind_of}
+use Rattle.search.specs.Rows.{Trail, reached_in}
+use Rattle.search.specs.Columns.{cells_of}
+use Rattle.planner.proofs.asked.Asked.trace.Given as goal
+
+abbrev pub invariant-loop-left : goal.invariant-loop-left
+invariant-loop-left g l =
+    (drop l.end.steps l.run ≡ drop l.end.steps l.initial.run)
+    × (l.here.steps ≡ l.left)
+    × ((x : ℕ)
+    × (reached_in (cells_of l.cells) x ≡ Some l.here)
+    × Trail (kind_of g.S.Charge.Charge) (g.S.Site.meaning l.self.site.now) l.self.request (cells_of l.cells) x l.here (drop l.left (take l.end.steps l.run)) l.end.charge)
