@@ -25,7 +25,7 @@ fn attempt<S: Site, Q: PriorityQueue<Charge = S::Charge>>(
     ensures below { site_below job.new ≡ site_below job.old }
     ensures book { (n : ℕ) → closed_by job.new n ≡ after_call (S.Site.meaning (site_below job.old)).ways (closed_by job.old) call n }
     ensures tried { Tried (kind_of S.Charge.Charge) Q.PriorityQueue.many (S.Site.meaning (site_below job.old)) (closed_by job.old) (lent memory.old) (lent memory.new) call result }
-    ensures same { SameLenders memory.old memory.new }
+    ensures same { SameLenders Q.PriorityQueue.lenders memory.old memory.new }
 {
     match call {
         Call::Close(way) => Answer::from(job.close(way)),
@@ -44,7 +44,7 @@ fn try_all<S: Site, Q: PriorityQueue<Charge = S::Charge>>(
     ensures calls { calls_of entries.new ≡ calls_of entries.old }
     ensures book { (n : ℕ) → closed_by job.new n ≡ after_calls (S.Site.meaning (site_below job.old)).ways (closed_by job.old) (calls_of entries.old) n }
     ensures listed { Tries (kind_of S.Charge.Charge) Q.PriorityQueue.many (S.Site.meaning (site_below job.old)) (closed_by job.old) (lent memory.old) (lent memory.new) entries.new }
-    ensures same { SameLenders memory.old memory.new }
+    ensures same { SameLenders Q.PriorityQueue.lenders memory.old memory.new }
 {
     for entry in entries.iter_mut() {
         entry.answer = attempt(job, entry.call, memory);
@@ -61,7 +61,7 @@ pub fn replay<S: Site + Drop, Q: PriorityQueue<Charge = S::Charge>>(
     memory: &mut Memory<'_, S::Charge, Q>,
 ) -> Result<Result<Planned<S::Charge>, Refusal>, AllocError>
     ensures replayed { MatchResult result (λ last. Replayed (kind_of S.Charge.Charge) Q.PriorityQueue.many (S.Site.meaning site) request entries.old entries.new (lent memory.old) (lent memory.new) last) (λ _. Untouched entries.old entries.new (lent memory.old) (lent memory.new)) }
-    ensures same { SameLenders memory.old memory.new }
+    ensures same { SameLenders Q.PriorityQueue.lenders memory.old memory.new }
 {
     let mut job = Job::new(heap, site)?;
     try_all(&mut job, entries, memory);

@@ -1,6 +1,6 @@
 -- The rows in which a search works are the same from step to step, and so they stay ready for it: what they have to be is told
 -- of their number, of the order in the queue and of the index, each of which a step keeps.
-use Rattle.std.proofs.Common.{◌≡◌, ℕ, min, List, length, sym, refl, ap, ◌∙◌}
+use Rattle.std.proofs.Common.{ℕ, min, List, sym, refl, ap, ◌∙◌}
 use Rattle.std.specs.Borrow.{GName}
 use Rattle.site.specs.declared.run.Request.{Request}
 use Rattle.site.specs.Meaning.{SiteMeaning}

@@ -73,7 +73,16 @@ impl<S: Site> Asked<'_, S> {
             if !within_bound(self.request, self.loss_of(at), w.loss) {
                 return;
             }
-            self.arrive(work, at, here, Step { way: n, mark: false }, w);
+            self.arrive(
+                work,
+                at,
+                here,
+                Step {
+                    way: n,
+                    mark: false,
+                },
+                w,
+            );
             if markable(self.site, self.request, w.to) {
                 self.arrive(work, at, here, Step { way: n, mark: true }, w);
             }

@@ -31,7 +31,8 @@ fn enter_way<S: Site>(site: &S, cells: &mut [Row<S::Charge>], n: usize)
     }
 }
 
-// Enters all ways into an empty index, as far as there are rows for their numbers.
+// Enters all ways into an empty index, as far as there are rows for their numbers. (By number: a site tells its ways by number
+// and has no list of them.)
 pub fn build<S: Site>(site: &S, cells: &mut [Row<S::Charge>])
     requires places { (S.Site.meaning site.now).places ≤ length cells.old }
     requires empty { (p : ℕ) → slice_index_or (heads_of cells.old) p None ≡ None }

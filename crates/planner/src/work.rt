@@ -17,6 +17,14 @@ pub struct Work<'c, 'q, C, Q> {
     pub queue: &'q mut Q,
 }
 
+// How the cell `at` was reached.
+fn reached_at<C: Charge>(cells: &[Row<C>], at: usize) -> Reached<C>
+    requires { IsSome (reached_in (cells_of cells.now) at) }
+    ensures { reached_in (cells_of cells.now) at ≡ Some result }
+{
+    cells[at].cell.reached().unwrap()
+}
+
 // Whether a cell is to be reached anew with this charge: it was never reached, or waits with more.
 fn better<C: Charge>(old: Cell<C>, charge: C) -> bool
     ensures { result ≡ improves (kind_of C.Charge) old charge }
@@ -36,7 +44,7 @@ impl<C: Charge, Q: PriorityQueue<Charge = C>> Work<'_, '_, C, Q> {
         requires { IsSome (reached_in (cells_of self.now.cells.now) at) }
         ensures { reached_in (cells_of self.now.cells.now) at ≡ Some result }
     {
-        self.cells[at].cell.reached().unwrap()
+        reached_at(&*self.cells, at)
     }
 
     // Lets the cell `at` wait as reached by `new`, in its row and in the queue.
@@ -79,7 +87,7 @@ pub fn settle<C: Charge>(cells: &mut [Row<C>], at: usize) -> Reached<C>
     ensures index { SameIndex cells.old cells.new }
     ensures settling { Settling (cells_of cells.old) (cells_of cells.new) at result }
 {
-    let here = cells[at].cell.reached().unwrap();
+    let here = reached_at(cells, at);
     cells[at].cell = Cell::Settled(here);
     here
 }

@@ -26,7 +26,7 @@ fn plan_over<Q: PriorityQueue<Charge = Money>>(
     memory: &mut Memory<'_, Money, Q>,
 ) -> Result<Planned<Money>, Refusal>
     ensures outcome { Outcome money Q.PriorityQueue.many (money_site (sealed_contents view.now.survey.now)) request (lent memory.old) (lent memory.new) result }
-    ensures same { SameLenders memory.old memory.new }
+    ensures same { SameLenders Q.PriorityQueue.lenders memory.old memory.new }
 {
     plan(view, request, memory)
 }
@@ -39,7 +39,7 @@ pub fn plan_for_money<Q: PriorityQueue<Charge = Money>>(
 ) -> Result<Planned<Money>, Refusal>
     ensures plan { Outcome money Q.PriorityQueue.many (money_site (sealed_contents survey.now)) request (lent memory.old) (lent memory.new) result }
     ensures problem { Answered (sealed_contents survey.now) request (length memory.old.cells.now) (Q.PriorityQueue.many memory.old.queue) (length memory.old.run.now) memory.new.run.now result }
-    ensures same { SameLenders memory.old memory.new }
+    ensures same { SameLenders Q.PriorityQueue.lenders memory.old memory.new }
 {
     let view = MoneyView::over(survey);
     plan_over(&view, request, memory)

@@ -14,4 +14,4 @@ invariant-loop-entry g l =
     × (site_below l.job ≡ site_below l.initial.job)
     × (closed_by l.job ≡ after_calls (g.S.Site.meaning (site_below l.initial.job)).ways (closed_by l.initial.job) (calls_of (take l.entry-index l.entries)))
     × Tries (kind_of g.S.Charge.Charge) g.Q.PriorityQueue.many (g.S.Site.meaning (site_below l.initial.job)) (closed_by l.initial.job) (lent l.initial.memory) (lent l.memory) (take l.entry-index l.entries)
-    × SameLenders l.initial.memory l.memory
+    × SameLenders g.Q.PriorityQueue.lenders l.initial.memory l.memory

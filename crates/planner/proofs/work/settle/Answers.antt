@@ -9,5 +9,5 @@ returns g c = record {
     heads = map-set_same (λ r. r.head) c.args.cells.now c.args.at _ c.index-cells-at.result refl;
     nexts = map-set_same (λ r. r.next) c.args.cells.now c.args.at _ c.index-cells-at.result refl;
   };
-  settling = record { was = ?; written = map-set (λ r. r.cell) c.args.cells.now c.args.at _ };
+  settling = record { was = c.reached_at-here.ensures; written = map-set (λ r. r.cell) c.args.cells.now c.args.at _ };
 }

@@ -35,7 +35,7 @@ returns g c =
     let empty = g.Q.PriorityQueue.waits c.clear-2.new.self in
     let waits = g.Q.PriorityQueue.waits c.wait.new.self.queue.now in
     let new : Reached g.row.S-Charge.Denot = record { charge = c.nothing.result; link = None; steps = 0 } in
-    let was : cells_of c.build.new.work.cells.now ≡ rows = c.build.ensures.cells ∙ ap cells_of c.clear.ensures in
+    let was : cells_of c.build.new.cells ≡ rows = c.build.ensures.cells ∙ ap cells_of c.clear.ensures in
     let size : length rows ≡ n = length-map (replicate n blank_row) (λ r. r.cell) ∙ sym (ap length c.clear.ensures) ∙ c.clear.auto.cells in
     let inside : at < length rows = omega (arith, c.cell_of-first.ensures, c.requires.room.rows_suffice) in
     let many_cells = c.wait.ensures.same.many_cells ∙ c.build.auto.cells ∙ c.clear.auto.cells in
@@ -47,9 +47,9 @@ returns g c =
       ready = record {
         room = room_kept m ask _ _ _ _ many_cells (c.wait.ensures.same.rows.as_many ∙ c.clear-2.ensures.rows.as_many) c.requires.room;
         ordered = c.wait.ensures.ordered;
-        indexed = indexed_kept m _ _ _ _ (ap (λ (z : ℕ). min m.ways z) (sym c.wait.ensures.same.many_cells)) c.wait.ensures.index c.build.ensures.indexed;
+        indexed = indexed_kept m _ _ _ _ (ap (λ (z : ℕ). min m.ways z) (sym (c.wait.ensures.same.many_cells ∙ c.build.auto.cells))) c.wait.ensures.index c.build.ensures.indexed;
       };
-      same = record { cells = refl; queue = refl; many_cells = many_cells; rows = record { as_many = c.wait.ensures.same.rows.as_many ∙ c.clear-2.ensures.rows.as_many; same_lenders = c.wait.ensures.same.rows.same_lenders ∙ c.clear-2.ensures.rows.same_lenders } };
+      same = record { cells = c.wait.ensures.same.cells; queue = c.wait.ensures.same.queue; many_cells = many_cells; rows = record { as_many = c.wait.ensures.same.rows.as_many ∙ c.clear-2.ensures.rows.as_many; same_lenders = c.wait.ensures.same.rows.same_lenders ∙ c.clear-2.ensures.rows.same_lenders } };
       rest = record {
         searching = start_search k laws m ask rows rows' empty waits at new inside (blank_cells n) written c.clear-2.ensures.empty put c.nothing.ensures refl refl place loss;
         books = start_books k laws m ask rows rows' empty waits at new inside (blank_cells n) written c.clear-2.ensures.empty put c.nothing.ensures refl refl place loss;

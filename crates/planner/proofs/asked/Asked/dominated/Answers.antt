@@ -11,7 +11,7 @@ charge_of (Some c) h = (c, refl)
 pub returns : goal.returns
 unfolding done_in
 returns g c = λ e.
-    let cell = nth_column (λ r. r.cell) c.args.cells.now c.in-Some.hint c.index-work-hint.result (omega arith) in
+    let cell = nth_column (λ r. r.cell) c.args.work.now.cells.now c.in-Some.hint c.index-work-hint.result (omega arith) in
     let d = charge_of _ (c.is_settled.ensures e) in
     record {
       cell = c.in-Some.hint;

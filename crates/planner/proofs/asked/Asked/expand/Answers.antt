@@ -1,6 +1,6 @@
 -- Every way is offered: those past the index one by one, the others along the index from the largest down, between whose
 -- links no way leaves the place; so the next cell can be taken.
-use Rattle.std.proofs.Common.{◌≡◌, ℕ, ◌+◌, ◌<◌, min, List, None, Option, length, get_or, sym, refl, ap, ◌∙◌, subst, inl, inr, arith, rules}
+use Rattle.std.proofs.Common.{◌≡◌, ℕ, ◌+◌, ◌<◌, min, None, Option, length, get_or, sym, refl, ap, ◌∙◌, subst, inl, inr, arith, rules}
 use Rattle.std.proofs.lemmas.Bool.{cases_eq, cases_lt}
 use Rattle.site.specs.Whole.{kind_of}
 use Rattle.search.specs.Cells.{place_of}

@@ -48,7 +48,7 @@ loop-left-init g c =
     let k = kind_of g.S.Charge.Charge in
     let m = g.S.Site.meaning c.args.self.now.site.now in
     let ask = c.args.self.now.request in
-    let rows = cells_of c.args.cells.now in
+    let rows = cells_of c.args.work.now.cells.now in
     let f = c.requires.found in
     let end = c.reached_at-end.result in
     let tr = subst (λ z. Trail k m ask rows c.args.last z [] z.charge) (some_same (sym f.row ∙ c.reached_at-end.ensures)) (trail_end k m ask rows c.args.last f) in
@@ -61,7 +61,7 @@ pub one_back-here-requires : goal.one_back-here-requires
 one_back-here-requires g c =
     let inv = c.loop-left.invariant in
     let few = few_steps c.requires.found c.reached_at-end.result c.reached_at-end.ensures in
-    let size = length-map c.args.cells.now (λ r. r.cell) in
+    let size = length-map c.args.work.now.cells.now (λ r. r.cell) in
     record {
       inside = omega (arith, c.requires.room, c.loop-left.auto.run, c.loop-left.auto.left);
       reached = ap is_some (from c.requires.found inv.2.0 c.loop-left.here inv.2.1 (omega arith) c.unwrap.result c.unwrap.ensures);
@@ -72,7 +72,7 @@ loop-left-preserved g c =
     let k = kind_of g.S.Charge.Charge in
     let m = g.S.Site.meaning c.args.self.now.site.now in
     let ask = c.args.self.now.request in
-    let rows = cells_of c.args.cells.now in
+    let rows = cells_of c.args.work.now.cells.now in
     let f = c.requires.found in
     let inv = c.loop-left.invariant in
     let w = inv.2 in
@@ -88,7 +88,7 @@ loop-left-preserved g c =
     let rest = drop left (take end.steps run) in
     let tr = subst (λ z. Trail k m ask rows link.from z (link.step ∷ rest) end.charge) q (on f w.0 here w.1 more link c.unwrap.ensures rest end.charge w.2) in
     let total = few_steps f end c.reached_at-end.ensures in
-    let size = length-map c.args.cells.now (λ r. r.cell) in
+    let size = length-map c.args.work.now.cells.now (λ r. r.cell) in
     let again : drop (left - 1) (take end.steps (set run (left - 1) link.step)) ≡ link.step ∷ rest =
     back_more run (left - 1) end.steps link.step (omega arith) (omega (arith, c.requires.room, c.loop-left.auto.run)) ∙ ap (λ (i : ℕ). link.step ∷ drop i (take end.steps run)) (let one : suc (left - 1) ≡ left = omega arith in one) in
     let wrote = c.one_back-here.ensures.wrote in
@@ -112,7 +112,7 @@ returns g c =
     let whole = trail_whole _ _ _ _ _ here _ end.charge (is_first _ _ _ _ _ here (f.linked _ here w.1) (inv.1 ∙ none)) w.2 in
     let all : Whole k m c.args.self.now.request run end.charge = subst (λ (i : ℕ). Whole k m c.args.self.now.request (drop i run) end.charge) none whole in
     let few = few_steps f end c.reached_at-end.ensures in
-    let size = length-map c.args.cells.now (λ r. r.cell) in
+    let size = length-map c.args.work.now.cells.now (λ r. r.cell) in
     record {
       steps = omega (arith, c.requires.room);
       least = record { lawful = all.lawful; comes_to = all.comes_to; lowest = subst (λ (z : Reached _). Lowest k m c.args.self.now.request z.charge) (is_end f end c.reached_at-end.ensures) f.lowest };

@@ -10,5 +10,5 @@ invariant-loop-left g l =
     (drop l.end.steps l.run ≡ drop l.end.steps l.initial.run)
     × (l.here.steps ≡ l.left)
     × ((x : ℕ)
-    × (reached_in (cells_of l.cells) x ≡ Some l.here)
-    × Trail (kind_of g.S.Charge.Charge) (g.S.Site.meaning l.self.site.now) l.self.request (cells_of l.cells) x l.here (drop l.left (take l.end.steps l.run)) l.end.charge)
+    × (reached_in (cells_of l.work.cells.now) x ≡ Some l.here)
+    × Trail (kind_of g.S.Charge.Charge) (g.S.Site.meaning l.self.site.now) l.self.request (cells_of l.work.cells.now) x l.here (drop l.left (take l.end.steps l.run)) l.end.charge)

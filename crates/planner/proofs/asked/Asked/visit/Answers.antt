@@ -6,6 +6,7 @@ use Rattle.search.specs.Rows.{done_in}
 use Rattle.search.specs.Columns.{cells_of}
 use Rattle.search.proofs.Covers.{skipped}
 use Rattle.search.proofs.Trails.{place_below}
+use Rattle.planner.proofs.Kept.{untouched}
 use Rattle.planner.proofs.asked.Asked.visit.Given as given
 use Rattle.planner.proofs.asked.Asked.visit.Goals as goal
 
@@ -25,10 +26,11 @@ returns-then-dominated g c =
     let rows = cells_of c.args.work.now.cells.now in
     let waits = g.Q.PriorityQueue.waits c.args.work.now.queue.now in
     record {
-      ordered = c.requires.ordered;
-      many = refl;
-      index = record { heads = refl; nexts = refl };
+      ready = c.requires.ready;
+      same = untouched;
       count = refl;
-      searching = skipped k laws m c.args.self.now.request (done_in rows) waits c.args.at c.args.here.charge c.requires.turn.expanding (c.if-dominated.ensures refl);
-      books = c.requires.turn.books;
+      rest = record {
+        searching = skipped k laws m c.args.self.now.request (done_in rows) waits c.args.at c.args.here.charge c.requires.turn.expanding (c.if-dominated.ensures refl);
+        books = c.requires.turn.books;
+      };
     }
