@@ -16,7 +16,7 @@ use site::run::Request;
 use site::site::Site;
 use std::alloc::{AllocError, Global};
 
-// Tries one call on a job.
+// Tries one call on a job. (A match, and no closures: the listed calls are the caller's data, which stay and are read again.)
 fn attempt<S: Site, Q: PriorityQueue<Charge = S::Charge>>(
     job: &mut Job<S>,
     call: Call,
@@ -52,7 +52,8 @@ fn try_all<S: Site, Q: PriorityQueue<Charge = S::Charge>>(
 }
 
 // Sets up a job over a site, tries the listed calls on it one by one, and then plans once more for the request. What each
-// listed call gave is written beside it. Only the set-up wants memory.
+// listed call gave is written beside it. Only the set-up wants memory. (A result in a result: the outer one says whether there
+// was memory, the inner one what the plan gave.)
 pub fn replay<S: Site + Drop, Q: PriorityQueue<Charge = S::Charge>>(
     heap: Global,
     site: S,

@@ -16,10 +16,8 @@ pub fn charge_after<S: Site>(site: &S, sum: S::Charge, mark: bool, w: Way<S::Cha
     if !mark {
         return plain;
     }
-    match site.repeater(w.to) {
-        Some(repeater) => plain.join(repeater),
-        None => plain,
-    }
+    site.repeater(w.to)
+        .map_or(plain, |repeater| plain.join(repeater))
 }
 
 // Whether a repeater may be marked at a place: one can stand there, and it is neither the start nor the end.

@@ -1,4 +1,5 @@
-// A cell that stands too low or too high goes to its position, by exchanges along the tree.
+// A cell that stands too low or too high goes to its position, by exchanges along the tree. (The loops run over no range: the
+// next position is the layout's, and how far a cell goes is told by the charges.)
 ghost use Rattle.std.specs.Prelude.{◌≡◌, ◌<◌, length, slice_index, slice_index_or, slice_set};
 ghost use Rattle.slots.specs.Rows.{charges, cells, positions};
 ghost use Rattle.slots.specs.Queues.{many_rows, Rearranged};

@@ -85,7 +85,8 @@ impl<S: Site> Job<S> {
         Ok(())
     }
 
-    // Reopens a way that this job has closed.
+    // Reopens a way that this job has closed. (It stands beside `close`, and is not one call with it: each has a rule and a
+    // refusal of its own, and what they share is the three lines.)
     pub fn reopen(&mut self, way: usize) -> Result<(), Refusal>
         ensures below { site_below self.new ≡ site_below self.old }
         ensures answer { result ≡ reopening (S.Site.meaning (site_below self.old)).ways (closed_by self.old) way }
