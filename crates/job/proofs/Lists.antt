@@ -1,6 +1,6 @@
 -- Lists of calls: one more call at the end goes on from the book and from what the calls before it left; and the law of the plan
 -- made next follows from what a plan promises, since no call changes how many rows there are.
-use Rattle.std.proofs.Common.{◌≡◌, ℕ, zero, suc, ◌+◌, ◌<◌, Bool, true, List, [], ◌∷◌, ◌++◌, length, take, set, is_err, Some, Ok, Err, Result, sym, refl, ap, ◌∙◌, subst, inl, inr, add-one, arith, take-suc-set, MatchResult}
+use Rattle.std.proofs.Common.{◌≡◌, ℕ, zero, suc, ◌+◌, ◌<◌, Bool, List, [], ◌∷◌, ◌++◌, length, take, set, Some, Ok, Err, Result, sym, refl, ap, ◌∙◌, subst, inl, inr, add-one, take-suc-set}
 use mathlib.Core.Path.{fun_ext}
 use Rattle.std.proofs.lemmas.List.{map-append}
 use Rattle.std.specs.List.{slice_get}
@@ -52,11 +52,6 @@ module _ {C Q : Type 0} (k : Kind C) (many : Q → ℕ) (m : SiteMeaning C) wher
         fun_ext marks ∙ ap (λ (b : ℕ → Bool). after_call m.ways b e.call) stands ∙ sym (after_more m.ways book (calls_of (take at es)) e.call) ∙ ap (λ (cs : List Call). after_calls m.ways book cs) (sym calls) ∙ ap (λ (z : List (Entry C)). after_calls m.ways book (calls_of z)) more,
         subst (λ (z : List (Entry C)). Tries k many m book h h' z) more (tries_more book h mid h' (take at es) e t (subst (λ (b : ℕ → Bool). Tried k many m b mid h' e.call e.answer) stands u)),
       )
-
--- of a Result that is an error
-pub err_since : {U E : Type 0} (r : Result U E) (P : U → Type 0) (R : Type 0) → is_err r ≡ true → R → MatchResult r P (λ _. R)
-err_since (Ok u) P R e h = absurd (let z : ◌≡◌ {A = ℕ} 0 1 = cc in omega arith)
-err_since (Err x) P R e h = h
 
 -- writing what stands there already changes nothing
 pub set_same : {X : Type 0} (xs : List X) (i : ℕ) (x : X) → slice_get xs i ≡ Some x → set xs i x ≡ xs

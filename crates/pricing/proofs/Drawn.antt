@@ -1,13 +1,13 @@
 -- A run is followed from its start: it is lawful just if what is left of it leads on lawfully from where it has come to,
 -- and its total is that of what is left upon the total so far. By one step at a time.
-use Rattle.std.proofs.Common.{◌≡◌, ℕ, ◌+◌, ◌<◌, ◌≤◌, false, List, [], ◌∷◌, length, get_or, drop, Some, Option, sym, ap, ◌∙◌, subst}
-use Rattle.std.proofs.lemmas.List.{drop_more, drop_all}
+use Rattle.std.proofs.Common.{◌≡◌, ℕ, ◌+◌, ◌<◌, false, List, ◌∷◌, length, get_or, drop, Some, Option, sym, ap, ◌∙◌, subst}
+use Rattle.std.proofs.lemmas.List.{drop_more}
 use Rattle.charge.specs.Kind.{Kind}
 use Rattle.site.specs.declared.way.Way.{Way}
 use Rattle.site.specs.declared.run.Step.{Step}
 use Rattle.site.specs.declared.run.Request.{Request}
 use Rattle.site.specs.Meaning.{SiteMeaning}
-use Rattle.site.specs.Runs.{Goes, Lawful, Run, loss_after, after_way, total_from, total}
+use Rattle.site.specs.Runs.{Lawful, Run, loss_after, after_way, total_from, total}
 use Rattle.pricing.specs.declared.Stand.{Stand}
 use Rattle.pricing.specs.Stands.{Gone}
 
@@ -33,17 +33,9 @@ module _ {C : Type 0} (k : Kind C) (m : SiteMeaning C) (q : Request) (steps : Li
     sum = ap (λ c. total_from k m c rest) (g.sum ∙ ap (after_way k m here.sum s.mark) (sym g.goes.opens)) ∙ f.sum;
   }
 
-  -- a step that may not be made ends a run that is not lawful
-  pub not_followed : (here : Stand C) (s : Step) (rest : List Step) → ((w : Way C) → Goes m q here.place here.loss s w → ⊥) → Followed here (s ∷ rest) → Run m q steps → ⊥
-  not_followed here s rest no_way f r = let l = f.back r in no_way l.0 l.1
-
   -- the next step, by its number
   abbrev pub step_at : ℕ → Step
   step_at i = get_or steps i (record { way = 0; mark = false })
 
   pub followed_next : (i : ℕ) (here : Stand C) → i < length steps → Followed here (drop i steps) → Followed here (step_at i ∷ drop (i + 1) steps)
   followed_next i here h f = subst (Followed here) (drop_more steps i (record { way = 0; mark = false }) h) f
-
-  -- nothing is left
-  pub followed_all : (i : ℕ) (here : Stand C) → length steps ≤ i → Followed here (drop i steps) → Followed here []
-  followed_all i here h f = subst (Followed here) (drop_all i steps h) f

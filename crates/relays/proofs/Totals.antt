@@ -32,9 +32,6 @@ value_front c s rest =
     omega arith
 
 module _ (c : Contents) (q : Request) where
-  joined_way : (a cents : ℕ) → sum_of (of_cents a) (of_cents cents) ≡ capped (a + cents)
-  joined_way a cents = ap of_cents (omega arith)
-
   -- the sum after a step
   after_step : (a cents : ℕ) (mark : Bool) (p : ℕ) → MarkAllowed (money_site c) q mark p
       → cond mark (with_repeater money (sum_of (of_cents a) (of_cents cents)) ((money_site c).repeater p)) (sum_of (of_cents a) (of_cents cents)) ≡ capped (a + cents + set_cents mark (relay_price c p))

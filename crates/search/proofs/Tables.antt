@@ -114,9 +114,6 @@ nth_column f [] i d h = absurd (omega arith)
 nth_column f (s ∷ ss) zero d h = refl
 nth_column f (s ∷ ss) (suc i) d h = nth_column f ss i d (omega arith)
 
-pub same_index : {C : Type 0} {a b c : List (Row C)} → SameIndex a b → SameIndex b c → SameIndex a c
-same_index p q = record { heads = q.heads ∙ p.heads; nexts = q.nexts ∙ p.nexts }
-
 pub same_lenders : {C Q : Type 0} {lenders : Q → List GName} {a b c : Memory C Q} → SameLenders lenders a b → SameLenders lenders b c → SameLenders lenders a c
 same_lenders p q = record { cells = q.cells ∙ p.cells; queue = q.queue ∙ p.queue; run = q.run ∙ p.run; many_cells = q.many_cells ∙ p.many_cells; many_steps = q.many_steps ∙ p.many_steps }
 

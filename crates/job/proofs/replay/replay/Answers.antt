@@ -1,6 +1,6 @@
 -- The job is new, so the book begins empty; after the listed calls the job has closed just what stands in the book, so the plan
 -- made next is one over the site below with the ways of the book shut, and the law follows from the promise of a plan.
-use Rattle.std.proofs.Common.{◌≡◌, ℕ, Bool, length, refl, ap, ◌∙◌, subst}
+use Rattle.std.proofs.Common.{◌≡◌, ℕ, Bool, length, ap, ◌∙◌, subst}
 use mathlib.Core.Path.{fun_ext}
 use Rattle.site.specs.Meaning.{SiteMeaning}
 use Rattle.site.specs.Whole.{kind_of}
@@ -9,11 +9,8 @@ use Rattle.planner.specs.Outcome.{Outcome}
 use Rattle.job.specs.Book.{empty_book, after_calls, book_for}
 use Rattle.job.specs.Jobs.{site_below, closed_by, shutting}
 use Rattle.job.specs.Replay.{calls_of, Tries}
-use Rattle.job.proofs.Lists.{err_since, law_holds, tries_many}
+use Rattle.job.proofs.Lists.{law_holds, tries_many}
 use Rattle.job.proofs.replay.replay.Goals as goal
-
-pub returns-in_err-job-clause-replayed : goal.returns-in_err-job-clause-replayed
-returns-in_err-job-clause-replayed g c = err_since c.from_residual.result _ _ c.from_residual.ensures.0 (record { same_entries = refl; same_lent = refl })
 
 pub returns-clause-replayed : goal.returns-clause-replayed
 returns-clause-replayed g c =

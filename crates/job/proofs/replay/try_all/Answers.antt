@@ -1,13 +1,12 @@
 -- Each turn tries one more call over the book that the calls before it left; after the last all have been tried.
-use Rattle.std.proofs.Common.{◌≡◌, ℕ, Bool, List, get_or, take, ap, ◌∙◌, subst, arith, take_all}
+use Rattle.std.proofs.Common.{◌≡◌, ℕ, get_or, ◌∙◌, subst, arith}
 use lib.Seq.{map-set}
 use Rattle.site.specs.Whole.{kind_of}
-use Rattle.job.specs.declared.list.Call.{Call}
 use Rattle.job.specs.declared.list.Entry.{Entry}
 use Rattle.search.specs.Lends.{lent}
-use Rattle.job.specs.Book.{after_call, after_calls}
+use Rattle.job.specs.Book.{after_call}
 use Rattle.job.specs.Jobs.{site_below, closed_by}
-use Rattle.job.specs.Replay.{calls_of, Tried, Tries}
+use Rattle.job.specs.Replay.{calls_of, Tried}
 use Rattle.search.proofs.Tables.{nth_column, same_lenders}
 use Rattle.job.proofs.Lists.{tried_next, set_same}
 use Rattle.job.proofs.replay.try_all.Goals as goal
@@ -32,23 +31,3 @@ loop-entry-preserved g c =
     let here = nth_column (λ (e : Entry _). e.call) es at c.entry-item.result (omega arith) in
     let calls = map-set (λ e. e.call) es at new ∙ set_same (calls_of es) at new.call here ∙ inv.0 in
     (calls, c.attempt-entry.ensures.below ∙ inv.1, next.0, next.1, same_lenders inv.4 c.attempt-entry.ensures.same)
-
-pub returns : goal.returns
-returns g c =
-    let k = kind_of g.S.Charge.Charge in
-    let many = g.Q.PriorityQueue.many in
-    let m = g.S.Site.meaning (site_below c.args.job.now) in
-    let closed = closed_by c.args.job.now in
-    let inv = c.loop-entry.invariant in
-    let es = c.loop-entry.entries in
-    let all : take c.loop-entry.entry-index es ≡ es = take_all c.loop-entry.entry-index es (omega arith) in
-    let h = lent c.args.memory.now in
-    let h' = lent c.loop-entry.memory in
-    let book : closed_by c.loop-entry.job ≡ after_calls m.ways closed (calls_of c.args.entries.now) = inv.2 ∙ ap (λ (z : List (Entry g.row.S-Charge.Denot)). after_calls m.ways closed (calls_of z)) all ∙ ap (λ (z : List Call). after_calls m.ways closed z) inv.0 in
-    record {
-      below = inv.1;
-      calls = inv.0;
-      book = λ n. ap (λ (b : ℕ → Bool). b n) book;
-      same = inv.4;
-      listed = subst (λ (z : List (Entry g.row.S-Charge.Denot)). Tries k many m closed h h' z) all inv.3;
-    }
