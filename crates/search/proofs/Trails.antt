@@ -9,7 +9,7 @@ use Rattle.site.specs.Meaning.{SiteMeaning}
 use Rattle.charge.specs.Kind.{Kind}
 use Rattle.site.specs.Runs.{Lawful, total_from, after_way, loss_after, Avoids, NoneTwice, place_behind, loss_behind}
 use Rattle.search.specs.Cells.{place_of, loss_of}
-use Rattle.search.specs.Rows.{First, Next, Linked, Trail, Found, Whole, reached_row, reached_in}
+use Rattle.search.specs.Rows.{First, Next, Linked, Trail, Whole, reached_row, reached_in}
 use Rattle.search.specs.declared.cell.Cell.{Cell}
 use Rattle.search.specs.declared.cell.Reached.{Reached}
 use Rattle.search.proofs.Turns.{some_same}
@@ -21,9 +21,6 @@ one_cell ask x y p l =
     sym (div-add-mod' x (ask.bound + 1)) ∙ ap (λ q. q * (ask.bound + 1) + x % (ask.bound + 1)) p ∙ ap (λ r. y / (ask.bound + 1) * (ask.bound + 1) + r) l ∙ div-add-mod' y (ask.bound + 1)
 
 module _ {C : Type 0} (k : Kind C) (m : SiteMeaning C) (ask : Request) (rows : List (Cell C)) where
-  pub trail_end : (x : ℕ) (f : Found k m ask rows x) → Trail k m ask rows x f.last [] f.last.charge
-  trail_end x f = record { lawful = f.end; comes_to = refl; avoids = λ y q e h. tt; once = tt }
-
   module _ (x : ℕ) (r : Reached C) (rest : List Step) (sum : C) (n : Next k m ask rows x r) (tr : Trail k m ask rows x r rest sum) where
     there : place_behind (m.way n.by.step.way) ≡ place_of ask x
     there = ap place_behind n.goes.opens ∙ sym n.place

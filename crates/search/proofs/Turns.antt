@@ -1,18 +1,16 @@
 -- The steps of the search over rows and queue: an offer, a take and the beginning keep what the search keeps of its state,
 -- and the links and step counts in the rows. Links survive since they lead to settled rows, which are never written again;
 -- and a waiting row is one that is not settled yet, so the settled ones are fewer than all.
-use Rattle.std.proofs.Common.{◌≡◌, ℕ, zero, suc, ◌+◌, ◌<◌, ◌≤◌, true, false, ◌≢◌, ◌⊎◌, List, [], ◌∷◌, length, set, Some, None, Option, sym, refl, ap, ◌∙◌, subst, inl, inr, arith}
+use Rattle.std.proofs.Common.{◌≡◌, ℕ, zero, suc, ◌+◌, ◌<◌, ◌≤◌, true, ◌≢◌, ◌⊎◌, List, [], ◌∷◌, length, set, Some, None, Option, sym, refl, ap, ◌∙◌, subst, inl, inr, arith}
 use mathlib.Core.Path.{fun_ext}
 use Rattle.std.specs.List.{slice_get}
 use Rattle.std.proofs.lemmas.Bool.{cases_eq}
-use Rattle.site.specs.declared.way.Way.{Way}
 use Rattle.site.specs.declared.run.Request.{Request}
 use Rattle.site.specs.Meaning.{SiteMeaning}
 use Rattle.charge.specs.Kind.{Kind}
-use Rattle.site.specs.Runs.{after_way, Markable}
 use Rattle.queue.specs.Waits.{Put, Taken}
 use Rattle.search.specs.Cells.{place_of, loss_of}
-use Rattle.search.specs.Search.{Laws, Expanding, Searching, Covered, Keeps, Offered}
+use Rattle.search.specs.Search.{Laws, Expanding, Searching, Covered, Keeps}
 use Rattle.search.specs.Rows.{settled_as, waits_as, settled_row, waits_row, reached_row, reached_in, done_in, one_if, settled_count, Next, Linked, Books, Turn, Offering, Settling, Found}
 use Rattle.search.specs.Columns.{reached_as}
 use Rattle.search.specs.declared.cell.Cell.{Cell}
@@ -240,25 +238,6 @@ module _ {C : Type 0} (k : Kind C) (laws : Laws k) (m : SiteMeaning C) (ask : Re
     books = settle_books;
     row = here_row;
   }
-
-module _ {C : Type 0} (k : Kind C) (laws : Laws k) (m : SiteMeaning C) (ask : Request) (done waits : ℕ → Option C) (x : ℕ) (c : C) (n : ℕ) where
-  pub none_offered : m.way n ≡ None → Offered k m ask done waits x c n
-  none_offered e mark w g = absurd (none_some e g.opens)
-
-  module _ (w : Way C) (e : m.way n ≡ Some w) where
-    pub away_offered : (w.from ≡ place_of ask x → ⊥) → Offered k m ask done waits x c n
-    away_offered ne mark v g = absurd (ne (ap (λ (z : Way C). z.from) (some_same (sym e ∙ g.opens)) ∙ g.leaves))
-
-    pub far_offered : ask.bound < loss_of ask x + w.loss → Offered k m ask done waits x c n
-    far_offered h mark v g = absurd (let a : w.loss ≡ v.loss = ap (λ (z : Way C). z.loss) (some_same (sym e ∙ g.opens)) in let b = g.arrives in omega arith)
-
-    pub both_offered : Covered k ask done waits w.to (loss_of ask x + w.loss) (after_way k m c false (Some w))
-        → (Markable m ask w.to → Covered k ask done waits w.to 0 (after_way k m c true (Some w)))
-        → Offered k m ask done waits x c n
-    both_offered plain marked false v g = subst (λ (z : Way C). Covered k ask done waits z.to (loss_of ask x + z.loss) (after_way k m c false (Some z))) (some_same (sym e ∙ g.opens)) plain
-    both_offered plain marked true v g =
-        let q = some_same (sym e ∙ g.opens) in
-        subst (λ (z : Way C). Covered k ask done waits z.to 0 (after_way k m c true (Some z))) q (marked (subst (λ (z : Way C). Markable m ask z.to) (sym q) g.marks))
 
 pub nth_inside : {X : Type 0} (xs : List X) (i : ℕ) (x : X) → slice_get xs i ≡ Some x → i < length xs
 nth_inside [] i x e = absurd (let z : ◌≡◌ {A = ℕ} 0 1 = cc in omega arith)

@@ -74,13 +74,6 @@ module _ {C : Type 0} (m : SiteMeaning C) (n : ℕ) (heads nexts : List (Option 
     ];
   }
 
--- an index of no ways
-pub index_none : {C : Type 0} (m : SiteMeaning C) (heads nexts : List (Option ℕ)) → ((p : ℕ) → get_or heads p None ≡ None) → Indexed m heads nexts 0
-index_none m heads nexts z = record {
-  of_place = λ p. subst (λ (y : Option ℕ). Largest m p 0 y) (sym (z p)) (λ i b v. omega arith);
-  of_way = λ j p h v. absurd (omega arith);
-}
-
 module _ {C : Type 0} (k : Kind C) (laws : Laws k) (m : SiteMeaning C) (ask : Request) (done waits : ℕ → Option C) (x : ℕ) (c : C) where
   -- a way that does not leave the cell's place has nothing to offer
   pub idle_offered : (i : ℕ) → (Leaves m (place_of ask x) i → ⊥) → Offered k m ask done waits x c i

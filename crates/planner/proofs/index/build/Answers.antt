@@ -1,12 +1,8 @@
 -- The index grows by one way in each turn, from an empty one.
-use Rattle.std.proofs.Common.{◌≡◌, ℕ, min, length, refl, ap, ◌∙◌, subst, arith}
+use Rattle.std.proofs.Common.{◌≡◌, ℕ, min, length, ap, ◌∙◌, subst, arith}
 use Rattle.search.specs.Columns.{heads_of, nexts_of}
 use Rattle.search.specs.Index.{Indexed}
-use Rattle.search.proofs.Walks.{index_none}
 use Rattle.planner.proofs.index.build.Goals as goal
-
-pub loop-n-init : goal.loop-n-init
-loop-n-init g c = (refl, index_none (g.S.Site.meaning c.args.site.now) _ _ c.requires.empty)
 
 pub returns : goal.returns
 returns g c =

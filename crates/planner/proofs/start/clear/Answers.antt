@@ -1,8 +1,8 @@
 -- One more row is blank; past the last one none is left.
-use Rattle.std.proofs.Common.{◌≡◌, ℕ, suc, ◌+◌, ◌++◌, List, length, drop, replicate, set, ap, ◌∙◌, subst, arith}
+use Rattle.std.proofs.Common.{◌≡◌, ℕ, suc, ◌+◌, ◌++◌, List, drop, replicate, set, ap, ◌∙◌, subst, arith}
 use Rattle.search.specs.Columns.{blank_row}
 use Rattle.search.specs.declared.cell.Row.{Row}
-use Rattle.search.proofs.Tables.{fill_step, fill_end}
+use Rattle.search.proofs.Tables.{fill_step}
 use Rattle.planner.proofs.start.clear.Goals as goal
 
 pub loop-row-preserved : goal.loop-row-preserved
@@ -11,9 +11,3 @@ loop-row-preserved g c =
     let i = c.loop-row.row-index in
     let wrote : set c.loop-row.cells i c.blank.result ≡ set (replicate i blank_row ++ drop i rows) i blank_row = ap (λ (r : Row _). set c.loop-row.cells i r) c.blank.ensures ∙ ap (λ (z : List (Row _)). set z i blank_row) c.loop-row.invariant in
     subst (λ (n : ℕ). set c.loop-row.cells i c.blank.result ≡ replicate n blank_row ++ drop n rows) (let n : suc i ≡ i + 1 = omega arith in n) (wrote ∙ fill_step rows i blank_row (omega arith))
-
-pub returns : goal.returns
-returns g c =
-    let rows = c.args.cells.now in
-    let all : c.loop-row.row-index ≡ length rows = omega arith in
-    c.loop-row.invariant ∙ ap (λ (n : ℕ). replicate n blank_row ++ drop n rows) all ∙ fill_end rows blank_row

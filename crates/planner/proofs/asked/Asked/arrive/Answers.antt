@@ -22,16 +22,6 @@ laws_of g =
     let met = g.met.S.Charge.Charge in
     record { total = met.total; transitive = met.transitive; monotone = met.monotone; rising = met.rising }
 
-pub cell_of-target-requires : goal.cell_of-target-requires
-cell_of-target-requires g c =
-    let lost : c.loss_after-loss.result ≡ loss_after c.args.step.mark (loss_of c.args.self.now.request c.args.at + c.args.w.loss) = c.loss_after-loss.ensures ∙ ap (λ (z : ℕ). loss_after c.args.step.mark (z + c.args.w.loss)) c.loss_of.ensures.same in
-    let low = after_low c.args.self.now.request c.args.step.mark _ _ c.requires.goes.arrives lost in
-    let b = g.S.Site.bounded c.args.self.now.site.now in
-    record {
-      place = (let h = b.to_in _ _ c.requires.goes.opens in let f = b.few_places in omega arith);
-      loss = low;
-    }
-
 pub overflow_add-here : goal.overflow_add-here
 overflow_add-here g c =
     let f = c.requires.turn.books.fewer _ _ c.requires.turn.row in

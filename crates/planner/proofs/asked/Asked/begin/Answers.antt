@@ -69,9 +69,3 @@ wait-requires g c =
       room = omega (arith, c.cell_of-first.ensures, c.requires.room.queue_suffices, c.clear-2.ensures.rows.as_many);
       ordered = c.clear-2.ensures.ordered;
     }
-
-pub cell_of-first-requires : goal.cell_of-first-requires
-cell_of-first-requires g c =
-    let b = g.S.Site.bounded c.args.self.now.site.now in
-    let f = b.few_places in
-    record { place = omega (arith, c.requires.start); loss = omega arith }

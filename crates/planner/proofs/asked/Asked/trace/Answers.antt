@@ -1,6 +1,6 @@
 -- Walking the links back from the end puts step after step onto the front of a trail, whose steps fall by one each time; at 0 it
 -- begins at the start's cell, and the trail is the whole run.
-use Rattle.std.proofs.Common.{◌≡◌, IsSome, is_some, ℕ, suc, ◌-◌, ◌<◌, List, [], ◌∷◌, length, take, drop, set, Some, sym, refl, ap, ◌∙◌, subst, arith}
+use Rattle.std.proofs.Common.{◌≡◌, IsSome, is_some, ℕ, suc, ◌-◌, ◌<◌, List, ◌∷◌, length, take, drop, set, Some, sym, ap, ◌∙◌, subst, arith}
 use lib.ListN.{length-map}
 use Rattle.charge.specs.Kind.{Kind}
 use Rattle.site.specs.Whole.{kind_of}
@@ -14,7 +14,7 @@ use Rattle.search.specs.declared.cell.Link.{Link}
 use Rattle.search.specs.declared.cell.Reached.{Reached}
 use Rattle.search.specs.Columns.{cells_of}
 use Rattle.search.proofs.Turns.{some_same}
-use Rattle.search.proofs.Trails.{trail_end, trail_back, trail_whole, not_first, is_first, back_more, behind_same, nothing_left}
+use Rattle.search.proofs.Trails.{trail_back, trail_whole, not_first, is_first, back_more, behind_same}
 use Rattle.planner.proofs.asked.Asked.trace.Goals as goal
 
 -- the cell that was found is the one that is read there, and tells few steps
@@ -42,17 +42,6 @@ module _ {C : Type 0} {k : Kind C} {m : SiteMeaning C} {ask : Request} {rows : L
 
     on : (rest : List Step) (sum : C) → Trail k m ask rows y here rest sum → Trail k m ask rows link.from next.before (link.step ∷ rest) sum
     on rest sum tr = subst (λ (z : Link). Trail k m ask rows z.from next.before (z.step ∷ rest) sum) by_link (trail_back k m ask rows y here rest sum next tr)
-
-pub loop-left-init : goal.loop-left-init
-loop-left-init g c =
-    let k = kind_of g.S.Charge.Charge in
-    let m = g.S.Site.meaning c.args.self.now.site.now in
-    let ask = c.args.self.now.request in
-    let rows = cells_of c.args.work.now.cells.now in
-    let f = c.requires.found in
-    let end = c.reached_at-end.result in
-    let tr = subst (λ z. Trail k m ask rows c.args.last z [] z.charge) (some_same (sym f.row ∙ c.reached_at-end.ensures)) (trail_end k m ask rows c.args.last f) in
-    (refl, refl, (c.args.last, c.reached_at-end.ensures, subst (λ (rest : List Step). Trail k m ask rows c.args.last end rest end.charge) (sym (nothing_left c.args.run.now end.steps)) tr))
 
 pub unwrap-requires : goal.unwrap-requires
 unwrap-requires g c = let inv = c.loop-left.invariant in has_link c.requires.found inv.2.0 c.loop-left.here inv.2.1 (omega arith)
