@@ -37,10 +37,11 @@ fn number(word: &str) -> Option<usize>
 fn plan_with(start: Option<usize>, end: Option<usize>, bound: Option<usize>) -> Option<Call>
     ensures { (q : Asked) → start ≡ Some q.start → end ≡ Some q.end → bound ≡ Some q.bound → result ≡ Some (Plan q) }
 {
-    match (start, end, bound) {
-        (Some(start), Some(end), Some(bound)) => Some(Call::Plan(Request { start, end, bound })),
-        _ => None,
-    }
+    Some(Call::Plan(Request {
+        start: start?,
+        end: end?,
+        bound: bound?,
+    }))
 }
 
 // The plan that the words behind its name ask for, if they ask for one.

@@ -106,23 +106,16 @@ fn script_of(mut entries: Vec<Entry<Money>>) -> Result<Script, Trouble>
     ensures { MatchResult result (λ s. (calls_of entries.items ≡ calls_of s.entries.items ++ Plan s.last ∷ []) × (AllUntried entries.items → AllUntried s.entries.items)) (λ t. EndTrouble (calls_of entries.items) t) }
 {
     let lines = entries.len() as u64;
-    match entries.pop() {
-        None => Err(Trouble::NoLines),
-        Some(entry) => match request_of(entry.call) {
-            Some(last) => Ok(Script { entries, last }),
-            None => Err(Trouble::NoPlan(lines)),
-        },
-    }
+    let entry = entries.pop().ok_or(Trouble::NoLines)?;
+    let last = request_of(entry.call).ok_or(Trouble::NoPlan(lines))?;
+    Ok(Script { entries, last })
 }
 
 // The script of the bytes of a text, or why they are none.
 pub fn read_script_bytes(heap: Global, text: &[u8]) -> Result<Result<Script, Trouble>, AllocError>
     ensures { IfOk result (λ s. MatchResult s (λ script. ScriptOf text.now script) (λ t. TroubleOf text.now t)) }
 {
-    match read_lines(heap, text)? {
-        Ok(entries) => Ok(script_of(entries)),
-        Err(trouble) => Ok(Err(trouble)),
-    }
+    Ok(read_lines(heap, text)?.and_then(script_of))
 }
 
 // The script of a text, or why it is none.

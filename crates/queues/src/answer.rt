@@ -25,10 +25,7 @@ impl fmt::Display for Answer {
         match *self {
             Answer::Rows(many) => write!(f, "ROWS {many}"),
             Answer::Put(Ok(())) => write!(f, "PUT"),
-            Answer::Put(Err(refusal)) => {
-                let code = refusal.code();
-                write!(f, "REFUSED {code}")
-            }
+            Answer::Put(Err(refusal)) => write!(f, "REFUSED {refusal}"),
             Answer::Took(Some(cents)) => write!(f, "TOOK {cents}"),
             Answer::Took(None) => write!(f, "NONE"),
             Answer::Emptied => write!(f, "EMPTIED"),

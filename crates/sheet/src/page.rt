@@ -32,9 +32,7 @@ fn put_sheet(drawn: &Drawn<'_, MoneyView<'_>>, sum: Money, out: &mut [u8]) -> Re
     if out.len() < ends {
         return Err(Refusal::NoRoom);
     }
-    let Some(_) = drawn.length(out.len() - ends) else {
-        return Err(Refusal::NoRoom);
-    };
+    drawn.length(out.len() - ends).ok_or(Refusal::NoRoom)?;
     let after_first = first.put_into(out, 0)?;
     let after_steps = drawn.put(out, after_first)?;
     last.put_into(out, after_steps)
@@ -53,16 +51,11 @@ pub fn sheet(
 {
     check_request(survey.places(), request)?;
     let site = &MoneyView::over(survey);
-    match total_of(site, request, steps) {
-        Some(sum) => put_sheet(
-            &Drawn {
-                site,
-                request,
-                steps,
-            },
-            sum,
-            out,
-        ),
-        None => Err(Refusal::NotLawful),
-    }
+    let sum = total_of(site, request, steps).ok_or(Refusal::NotLawful)?;
+    let drawn = Drawn {
+        site,
+        request,
+        steps,
+    };
+    put_sheet(&drawn, sum, out)
 }

@@ -36,10 +36,7 @@ fn tell(
     let mut out = vec![in rt.alloc(); 0u8; bytes]?;
     match sheet(survey, asked, steps, &mut out) {
         Ok(length) => println!(rt; "{name}: {length} bytes")?,
-        Err(refusal) => {
-            let number = refusal.code();
-            println!(rt; "{name}: refused with {number}")?
-        }
+        Err(refusal) => println!(rt; "{name}: refused with {refusal}")?,
     }
     Ok(())
 }

@@ -1,4 +1,5 @@
 // Files at and past each limit.
+use refusal::Fault;
 use std::alloc::{AllocError, Global};
 use survey::draft::Draft;
 use survey_file::reader::FileReader;
@@ -43,10 +44,8 @@ pub fn answer_to(
             let ways = draft.ways();
             println!(rt; "{name}: {places} places, {ways} ways")?;
         }
-        Err(fault) => {
-            let number = fault.refusal.code();
-            let place = fault.place;
-            println!(rt; "{name}: refused with {number} at {place}")?;
+        Err(Fault { refusal, place }) => {
+            println!(rt; "{name}: refused with {refusal} at {place}")?;
         }
     }
     Ok(())
