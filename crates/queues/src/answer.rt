@@ -33,7 +33,8 @@ impl fmt::Display for Answer {
     }
 }
 
-// The answer of a queue to a call. To be asked for rows it only tells how many it has.
+// The answer of a queue to a call. To be asked for rows it only tells how many it has. (The calls are what the caller gives, as
+// data, so one match says what each comes to.)
 pub fn ask<Q: PriorityQueue<Charge = Money>>(queue: &mut Q, call: Call) -> Answer
     requires { Q.PriorityQueue.ordered queue.old }
     ensures ordered { Q.PriorityQueue.ordered queue.new }

@@ -2,9 +2,7 @@
 // requests that are refused, and bytes that are too few.
 #![tactic(auto)]
 
-mod house;
-
-use crate::house::house;
+use four_places::house;
 use job::job::Job;
 use pricing::total_of;
 use sheet::page::sheet;

@@ -64,7 +64,8 @@ fn enter<E: Entry>(field: &Field<'_>, draft: &mut Draft) -> Result<State, Fault>
         .and(Ok(behind))
 }
 
-// One field.
+// One field. (The pair of phase and tag is matched, a line to each pair that the format has: the phase is what was read so far, the
+// tag what comes, and neither alone says whether the field may stand there. docs/DECISIONS.md, under Forms, has more.)
 fn turn(bytes: &[u8], s: State, draft: &mut Draft) -> Result<State, Fault>
     requires { s.at ≤ length bytes.now }
     ensures state { result ≡ state_of (turn_of bytes.now s (contents draft.old)) }
@@ -85,7 +86,7 @@ fn turn(bytes: &[u8], s: State, draft: &mut Draft) -> Result<State, Fault>
     }
 }
 
-// A whole file is read into an empty draft.
+// A whole file is read into an empty draft. (The loop counts nothing: a turn gives the next state, until the last phase is reached.)
 fn fill(bytes: &[u8], draft: &mut Draft) -> Result<(), Fault>
     requires { contents draft.old ≡ no_contents }
     ensures answer { result ≡ given tt (decode bytes.now) }
