@@ -2,6 +2,7 @@
 ghost use Rattle.std.specs.Prelude.{◌≡◌, ◌<◌, ◌≤◌, length, MatchResult};
 ghost use Rattle.byte_slices.specs.Lay.{placed, over};
 ghost use Rattle.charge.specs.Moneys as moneys;
+ghost use Rattle.refusal.specs.declared.Refusal.TheVariants.{NotLawful};
 ghost use Rattle.site.specs.Runs.{Run, total};
 ghost use Rattle.survey.specs.Sealing.{sealed_contents};
 ghost use Rattle.views.specs.SurveySite.{money_site};
@@ -38,6 +39,13 @@ fn put_sheet(drawn: &Drawn<'_, MoneyView<'_>>, sum: Money, out: &mut [u8]) -> Re
     last.put_into(out, after_steps)
 }
 
+// The total of a lawful run; other steps are refused.
+fn lawful_total(site: &MoneyView<'_>, request: Request, steps: &[Step]) -> Result<Money, Refusal>
+    ensures { MatchResult result (λ sum. Run (money_site (sealed_contents site.now.survey.now)) request steps.now × (sum ≡ total moneys.money (money_site (sealed_contents site.now.survey.now)) steps.now)) (λ e. (e ≡ NotLawful) × (Run (money_site (sealed_contents site.now.survey.now)) request steps.now → ⊥)) }
+{
+    total_of(site, request, steps).ok_or(Refusal::NotLawful)
+}
+
 // The sheet of a run that was drawn by hand or planned: it is written to the front of the bytes, and its length
 // answered. Refused are, in this order, a missing start or end, a wrong bound, steps that are no lawful run for money, and
 // a sheet that does not fit; then all bytes stay.
@@ -51,7 +59,7 @@ pub fn sheet(
 {
     check_request(survey.places(), request)?;
     let site = &MoneyView::over(survey);
-    let sum = total_of(site, request, steps).ok_or(Refusal::NotLawful)?;
+    let sum = lawful_total(site, request, steps)?;
     let drawn = Drawn {
         site,
         request,
