@@ -10,7 +10,7 @@ use site::run::Request;
 use std::alloc::{AllocError, Global};
 use std::str::from_utf8;
 
-// The text of a call.
+// The text of a call. (It is `format!` and no Display, since the contract names the bytes of the string that is made.)
 pub fn text_of(heap: Global, call: Call) -> Result<String, AllocError>
     ensures { IfOk result (λ s. string_bytes s ≡ call_text call) }
 {
@@ -37,10 +37,11 @@ fn number(word: &str) -> Option<usize>
 fn plan_with(start: Option<usize>, end: Option<usize>, bound: Option<usize>) -> Option<Call>
     ensures { (q : Asked) → start ≡ Some q.start → end ≡ Some q.end → bound ≡ Some q.bound → result ≡ Some (Plan q) }
 {
-    match (start, end, bound) {
-        (Some(start), Some(end), Some(bound)) => Some(Call::Plan(Request { start, end, bound })),
-        _ => None,
-    }
+    Some(Call::Plan(Request {
+        start: start?,
+        end: end?,
+        bound: bound?,
+    }))
 }
 
 // The plan that the words behind its name ask for, if they ask for one.

@@ -71,7 +71,8 @@ fn cut_line(text: &[u8]) -> (&[u8], &[u8])
 }
 
 // The calls of the lines, in their order, none of them tried yet, or the number of the first line that is none. (A result in a
-// result: the outer one says whether there was memory, the inner one what the text is, and every clause speaks of that.)
+// result: the outer one says whether there was memory, the inner one what the text is, and every clause speaks of that. The loop
+// cuts a line at a time off what is left and counts nothing by hand.)
 fn read_lines(heap: Global, text: &[u8]) -> Result<Result<Vec<Entry<Money>>, Trouble>, AllocError>
     ensures { IfOk result (λ s. MatchResult s (λ v. TextOf text.now (calls_of v.items) × AllUntried v.items) (λ t. TroubleOf text.now t)) }
 {
@@ -106,26 +107,19 @@ fn script_of(mut entries: Vec<Entry<Money>>) -> Result<Script, Trouble>
     ensures { MatchResult result (λ s. (calls_of entries.items ≡ calls_of s.entries.items ++ Plan s.last ∷ []) × (AllUntried entries.items → AllUntried s.entries.items)) (λ t. EndTrouble (calls_of entries.items) t) }
 {
     let lines = entries.len() as u64;
-    match entries.pop() {
-        None => Err(Trouble::NoLines),
-        Some(entry) => match request_of(entry.call) {
-            Some(last) => Ok(Script { entries, last }),
-            None => Err(Trouble::NoPlan(lines)),
-        },
-    }
+    let entry = entries.pop().ok_or(Trouble::NoLines)?;
+    let last = request_of(entry.call).ok_or(Trouble::NoPlan(lines))?;
+    Ok(Script { entries, last })
 }
 
-// The script of the bytes of a text, or why they are none.
+// The script of the bytes of a text, or why they are none. (The outer result says whether there was memory.)
 pub fn read_script_bytes(heap: Global, text: &[u8]) -> Result<Result<Script, Trouble>, AllocError>
     ensures { IfOk result (λ s. MatchResult s (λ script. ScriptOf text.now script) (λ t. TroubleOf text.now t)) }
 {
-    match read_lines(heap, text)? {
-        Ok(entries) => Ok(script_of(entries)),
-        Err(trouble) => Ok(Err(trouble)),
-    }
+    Ok(read_lines(heap, text)?.and_then(script_of))
 }
 
-// The script of a text, or why it is none.
+// The script of a text, or why it is none. (The outer result says whether there was memory.)
 pub fn read_script(heap: Global, text: &str) -> Result<Result<Script, Trouble>, AllocError>
     ensures script { IfOk result (λ s. IfOk s (λ script. TextOf text.now (calls_of script.entries.items ++ Plan script.last ∷ []))) }
     ensures whole { IfOk result (λ s. MatchResult s (λ script. ScriptOf text.now script) (λ t. TroubleOf text.now t)) }

@@ -54,8 +54,8 @@ fn entry(row: usize, metres: usize) -> u16
     CARD[row][metres]
 }
 
-// The row of a cable letter; another letter is refused. (A letter that is matched, with a row as the answer, is the form that
-// the rules of the project name: the row is an index into the table, not the code of a kind.)
+// The row of a cable letter; another letter is refused. (The letter is matched and the answer is a row, as docs/DECISIONS.md tells
+// under Forms: the row is an index into the table, not the code of a kind.)
 pub fn row_of(letter: char) -> Result<usize, Refusal>
     ensures { result ≡ row_of letter }
 {

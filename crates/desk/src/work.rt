@@ -1,10 +1,9 @@
 // The calls of a script, tried on a job over a survey.
 use crate::print;
 use calls::script::Script;
-use heap::Heap;
+use heap::Binary;
 use job::replay::replay;
 use owned_rows::OwnedRows;
-use search::memory::Memory;
 use site::site::Site;
 use survey::sealed::Sealed;
 use views::money::MoneyView;
@@ -15,17 +14,12 @@ pub fn try_script(rt: &HostRuntime, survey: &Sealed, script: Script) -> anyhow::
     let mut rows = OwnedRows::blank(rt.alloc(), many)?;
     let mut entries = script.entries;
     let last = script.last;
-    let mut memory = Memory {
-        cells: rows.cells.as_mut_slice(),
-        queue: Heap::over(rows.slots.as_mut_slice()),
-        run: rows.run.as_mut_slice(),
-    };
     let gave = replay(
         rt.alloc(),
         MoneyView::over(survey),
         entries.as_mut_slice(),
         last,
-        &mut memory,
+        &mut rows.lend::<Binary>(),
     )?;
     for entry in entries.as_slice() {
         print::answer(rt, entry)?;

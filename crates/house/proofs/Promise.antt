@@ -1,10 +1,9 @@
 -- What a plan promises is more than what is told of it here: a run that is handed out is a least one, and where a request is
 -- refused for want of a run, it was not stopped for another cause, so no run is lawful.
-use Rattle.std.proofs.Common.{◌≡◌, ℕ, List, take, Ok, Err, Result, inl, inr, arith}
+use Rattle.std.proofs.Common.{◌≡◌, ℕ, take, Ok, Err, Result, inl, inr, arith}
 use Rattle.charge.specs.Kind.{Kind}
 use Rattle.refusal.specs.declared.Refusal.{Refusal}
 use Rattle.refusal.specs.declared.Refusal.TheVariants.{NoRun}
-use Rattle.site.specs.declared.run.Step.{Step}
 use Rattle.site.specs.declared.run.Request.{Request}
 use Rattle.site.specs.Meaning.{SiteMeaning}
 use Rattle.search.specs.Lends.{Lent}

@@ -60,10 +60,7 @@ impl fmt::Display for Shown {
     fn fmt<W: fmt::Write>(&self, f: &mut fmt::Formatter<W>) -> fmt::Result {
         match self.0 {
             Ok(figure) => write!(f, "{figure}"),
-            Err(refusal) => {
-                let number = refusal.code();
-                write!(f, "REFUSED {number}")
-            }
+            Err(refusal) => write!(f, "REFUSED {refusal}"),
         }
     }
 }

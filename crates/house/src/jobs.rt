@@ -1,7 +1,7 @@
 // Plans on jobs over the house, and on jobs over jobs.
 use crate::case::{Case, Cases, across};
-use crate::four_places::house;
 use anyhow::anyhow;
+use four_places::house;
 use job::job::Job;
 use owned_rows::Counts;
 use refusal::Refusal;

@@ -6,7 +6,6 @@ use crate::case::{Cases, Tally};
 
 mod case;
 mod floor;
-mod four_places;
 mod gave;
 mod jobs;
 mod memory;

@@ -7,11 +7,9 @@ use owned_rows::OwnedRows;
 use planner::plan::plan;
 use planner::planned::Planned;
 use refusal::Refusal;
-use search::memory::Memory;
 use site::run::Request;
 use site::site::Site;
 use slots::layout::Leave;
-use slots::lent::LentQueue;
 
 // Plans with the queue of a layout.
 pub fn with_queue<S: Site, L: Leave>(
@@ -21,11 +19,7 @@ pub fn with_queue<S: Site, L: Leave>(
 ) -> Result<Planned<S::Charge>, Refusal>
     ensures { Answers (kind_of S.Charge.Charge) (S.Site.meaning site.now) request result }
 {
-    let queue = LentQueue::<S::Charge, L>::over(rows.slots.as_mut_slice());
-    let cells = rows.cells.as_mut_slice();
-    let run = rows.run.as_mut_slice();
-    let mut memory = Memory { cells, queue, run };
-    plan(site, request, &mut memory)
+    plan(site, request, &mut rows.lend::<L>())
 }
 
 // Plans for one request and then for another, with the same queue as the first plan left it; what the second gave.
@@ -37,10 +31,7 @@ pub fn again_with_queue<S: Site, L: Leave>(
 ) -> Result<Planned<S::Charge>, Refusal>
     ensures { Answers (kind_of S.Charge.Charge) (S.Site.meaning site.now) request result }
 {
-    let queue = LentQueue::<S::Charge, L>::over(rows.slots.as_mut_slice());
-    let cells = rows.cells.as_mut_slice();
-    let run = rows.run.as_mut_slice();
-    let mut memory = Memory { cells, queue, run };
+    let mut memory = rows.lend::<L>();
     let _ = plan(site, first, &mut memory);
     plan(site, request, &mut memory)
 }

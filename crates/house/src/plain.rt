@@ -1,8 +1,8 @@
 // Plans on the house with all ways open.
 use crate::case::{Case, Cases, across};
-use crate::four_places::house;
 use crate::gave::of_disturbance;
 use crate::memory::with_queue;
+use four_places::house;
 use heap::Binary;
 use ordered_row::Chain;
 use owned_rows::{Counts, Filling, OwnedRows};

@@ -1,8 +1,8 @@
 // How many rows a plan needs, and rows and a queue that a plan before has left.
 use crate::case::{Case, Cases, across};
-use crate::four_places::house;
 use crate::gave::of_money;
 use crate::memory::again_with_queue;
+use four_places::house;
 use heap::Binary;
 use ordered_row::Chain;
 use owned_rows::{Counts, Filling, OwnedRows};

@@ -30,8 +30,8 @@ pub fn request_in(bytes: &[u8]) -> Result<Request, Fault>
     })
 }
 
-// Fills the buffer from standard input, as far as there is input; how many bytes came. (The buffer bounds what is read: that no
-// more comes than a `take` lets through is told by no clause of the library, so the count stands beside it.)
+// Fills the buffer from standard input, as far as there is input; how many bytes came. (Tried with `take`: no clause of the library
+// bounds what it lets through. So the buffer bounds what is read, and the count stands beside it.)
 pub fn read_input(rt: &HostRuntime, buffer: &mut [u8]) -> io::Result<usize>
     ensures { IfOk result (λ n. n ≤ length buffer.old) }
 {
@@ -54,7 +54,8 @@ pub fn print_text(rt: &HostRuntime, text: &[u8]) -> anyhow::Result<()> {
     Ok(())
 }
 
-// Prints the line of a fault in a file. (The line fits, so nothing is left for the other arm to do.)
+// Prints the line of a fault in a file. (The line is laid into bytes that are lent, since to make it takes no memory; it has less
+// than 64, so nothing is left for the other arm to do.)
 pub fn print_fault(rt: &HostRuntime, fault: Fault) -> anyhow::Result<()> {
     let mut text = [0u8; 64];
     match fault_line(fault, &mut text) {
@@ -72,7 +73,8 @@ pub fn print_refusal(rt: &HostRuntime, refusal: Refusal) -> anyhow::Result<()> {
     }
 }
 
-// Prints the sheet of the steps over a survey, which may have so many bytes, or why there is none.
+// Prints the sheet of the steps over a survey, which may have so many bytes, or why there is none. (The page is lent to `sheet`, which
+// takes no memory of its own: so the bytes are here, and how many of them were written is its answer.)
 pub fn print_sheet(
     rt: &HostRuntime,
     survey: &Sealed,
@@ -84,5 +86,30 @@ pub fn print_sheet(
     match sheet(survey, request, steps, &mut page) {
         Ok(length) => print_text(rt, &page[..length]),
         Err(refusal) => print_refusal(rt, refusal),
+    }
+}
+
+#[cfg(test)]
+mod tests {
+    use super::*;
+    use std::test::Fail;
+    use survey::draft::Draft;
+
+    // There is memory for a page, and a page that is too short is no error. (A test cannot read what it prints: the bytes are
+    // compared where the programs are run.)
+    #[test]
+    fn a_sheet_is_printed(rt: HostRuntime) -> Result<(), Fail> {
+        let mut draft = Draft::new(rt.alloc())?;
+        assert_eq!(rt; draft.add_place(None), Ok(0));
+        let survey = draft.seal();
+        let request = Request {
+            start: 0,
+            end: 0,
+            bound: 1,
+        };
+        for most in [0, 512] {
+            assert!(rt; print_sheet(&rt, &survey, request, &[], most).is_ok());
+        }
+        Ok(())
     }
 }

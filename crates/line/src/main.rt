@@ -2,11 +2,10 @@
 // refused.
 #![tactic(auto)]
 
-use heap::Heap;
+use heap::Binary;
 use input::{print_fault, print_refusal, print_sheet, read_input, request_in};
 use owned_rows::OwnedRows;
 use relays::plan_for_money;
-use search::memory::Memory;
 use site::run::Request;
 use survey::draft::Draft;
 use survey::sealed::Sealed;
@@ -24,11 +23,7 @@ const PAGE: usize = 65536;
 // Plans the least run for money over a survey, and prints it.
 fn plan_survey(rt: &HostRuntime, survey: &Sealed, request: Request) -> anyhow::Result<()> {
     let mut rows = OwnedRows::blank(rt.alloc(), ROWS)?;
-    let mut memory = Memory {
-        cells: &mut rows.cells,
-        queue: Heap::over(&mut rows.slots),
-        run: &mut rows.run,
-    };
+    let mut memory = rows.lend::<Binary>();
     match plan_for_money(survey, request, &mut memory) {
         Ok(planned) => print_sheet(rt, survey, request, &memory.run[..planned.steps], PAGE),
         Err(refusal) => print_refusal(rt, refusal),

@@ -1,12 +1,17 @@
 // Rows of working memory in vectors, for programs that plan: what a plan is lent comes out of them.
 #![tactic(auto)]
 
-ghost use Rattle.std.specs.Prelude.{◌≡◌, IfOk};
+ghost use Rattle.std.specs.Prelude.{◌≡◌, ℕ, length, vec_len, IfOk, None};
+ghost use Rattle.slots.specs.Order.{ranked};
+ghost use Rattle.slots.specs.Queues.{many_rows, what_waits, InRowOrder};
 ghost use Rattle.owned_rows.specs.Fillings.{as_many, counted, blank_filling, used_filling};
 
 use charge::kind::Charge;
 use search::cell::{Cell, Link, Reached, Row};
+use search::memory::Memory;
 use site::run::Step;
+use slots::layout::Layout;
+use slots::lent::LentQueue;
 use slots::slot::Slot;
 use std::alloc::{AllocError, Global};
 
@@ -57,9 +62,7 @@ impl<C: Charge> Filling<C> {
             },
         }
     }
-}
 
-impl<C: Charge> Filling<C> {
     // Rows as a plan might have left them, to show that the next one reads nothing of it.
     pub fn used() -> Filling<C>
         ensures { result ≡ used_filling C.Charge.free }
@@ -118,6 +121,23 @@ impl<C: Charge + Clone> OwnedRows<C> {
         ensures { IfOk result (λ r. counted r ≡ as_many many) }
     {
         OwnedRows::filled(heap, Counts::each(many), Filling::blank())
+    }
+}
+
+impl<C: Charge> OwnedRows<C> {
+    // All rows, lent to a plan, with a queue of some layout in which no cell waits.
+    pub fn lend<L: Layout>(&mut self) -> Memory<'_, C, LentQueue<'_, C, L>>
+        ensures ordered { InRowOrder L.Layout.up (ranked L.Layout.turned C.Charge.within) result.queue }
+        ensures empty { (k : ℕ) → what_waits result.queue k ≡ None }
+        ensures cells { length result.cells.now ≡ vec_len self.old.cells }
+        ensures queue_rows { many_rows result.queue ≡ vec_len self.old.slots }
+        ensures run { length result.run.now ≡ vec_len self.old.run }
+    {
+        Memory {
+            cells: &mut self.cells,
+            queue: LentQueue::over(&mut self.slots),
+            run: &mut self.run,
+        }
     }
 }
 

@@ -3,10 +3,9 @@
 
 use charge::money::Money;
 use grid::grid::FloorGrid;
-use heap::Heap;
+use heap::Binary;
 use owned_rows::{Counts, Filling, OwnedRows};
 use planner::plan::plan;
-use search::memory::Memory;
 use site::run::Request;
 use site::site::Site;
 use std::alloc::Global;
@@ -19,11 +18,7 @@ fn plan_over(
     rows: &mut OwnedRows<Money>,
 ) -> Option<u64> {
     let mut total = None;
-    let mut memory = Memory {
-        cells: rows.cells.as_mut_slice(),
-        queue: Heap::over(rows.slots.as_mut_slice()),
-        run: rows.run.as_mut_slice(),
-    };
+    let mut memory = rows.lend::<Binary>();
     for _ in 0..plans {
         total = plan(site, request, &mut memory)
             .map(|planned| planned.total.counted())

@@ -4,16 +4,9 @@
 use charge::kind::Charge;
 use charge::money::Money;
 use heap::Heap;
+use owned_rows::Filling;
 use queue::queue::PriorityQueue;
-use slots::slot::Slot;
 use std::alloc::Global;
-
-// a row that holds whatever was there before
-const USED: Slot<Money> = Slot {
-    charge: Money { cents: 1 },
-    cell: 7,
-    position: 3,
-};
 
 // Each cell is put with its charge.
 fn put_all<Q: PriorityQueue<Charge = Money>>(queue: &mut Q, charges: &[u64])
@@ -48,10 +41,10 @@ fn churn<Q: PriorityQueue<Charge = Money>>(queue: &mut Q, steps: &[u64], taken: 
     }
 }
 
-// Puts every charge, then takes them in order. False where there is no memory for the rows, since C has no Result.
+// Puts every charge, then takes them in order, on rows that hold whatever was there before. False where there is no memory for the rows, since C has no Result.
 #[unsafe(no_mangle)]
 pub extern "C" fn heap_fill_and_drain(memory: Global, charges: &[u64], taken: &mut [u64]) -> bool {
-    let Ok(mut rows) = vec![in memory; USED; charges.len()] else {
+    let Ok(mut rows) = vec![in memory; Filling::used().slot; charges.len()] else {
         return false;
     };
     let mut heap = Heap::over(rows.as_mut_slice());
@@ -68,7 +61,7 @@ pub extern "C" fn heap_churn(
     steps: &[u64],
     taken: &mut [u64],
 ) -> bool {
-    let Ok(mut rows) = vec![in memory; USED; charges.len()] else {
+    let Ok(mut rows) = vec![in memory; Filling::used().slot; charges.len()] else {
         return false;
     };
     let mut heap = Heap::over(rows.as_mut_slice());

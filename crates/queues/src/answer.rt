@@ -25,10 +25,7 @@ impl fmt::Display for Answer {
         match *self {
             Answer::Rows(many) => write!(f, "ROWS {many}"),
             Answer::Put(Ok(())) => write!(f, "PUT"),
-            Answer::Put(Err(refusal)) => {
-                let code = refusal.code();
-                write!(f, "REFUSED {code}")
-            }
+            Answer::Put(Err(refusal)) => write!(f, "REFUSED {refusal}"),
             Answer::Took(Some(cents)) => write!(f, "TOOK {cents}"),
             Answer::Took(None) => write!(f, "NONE"),
             Answer::Emptied => write!(f, "EMPTIED"),
@@ -36,7 +33,8 @@ impl fmt::Display for Answer {
     }
 }
 
-// The answer of a queue to a call. To be asked for rows it only tells how many it has.
+// The answer of a queue to a call. To be asked for rows it only tells how many it has. (The calls are what the caller gives, as
+// data, so one match says what each comes to.)
 pub fn ask<Q: PriorityQueue<Charge = Money>>(queue: &mut Q, call: Call) -> Answer
     requires { Q.PriorityQueue.ordered queue.old }
     ensures ordered { Q.PriorityQueue.ordered queue.new }

@@ -6,16 +6,9 @@ use crate::call::{Call, Line};
 use charge::money::Money;
 use heap::Heap;
 use ordered_row::OrderedRow;
+use owned_rows::Filling;
 use queue::queue::PriorityQueue;
-use slots::slot::Slot;
 use std::{fmt, io};
-
-// a row that holds whatever was there before
-const USED: Slot<Money> = Slot {
-    charge: Money { cents: 1 },
-    cell: 7,
-    position: 3,
-};
 
 // to how many calls both queues answered alike, and to how many not
 #[derive(Clone, Copy)]
@@ -102,10 +95,11 @@ impl Player<'_> {
         Ok(())
     }
 
-    // A block of lines that begins with the number of rows.
+    // A block of lines that begins with the number of rows, which hold whatever was there before.
     fn play_block(&mut self, many: usize, lines: &[Line]) -> anyhow::Result<()> {
-        let mut heap_rows = vec![in self.rt.alloc(); USED; many]?;
-        let mut ordered_rows = vec![in self.rt.alloc(); USED; many]?;
+        let used = Filling::used().slot;
+        let mut heap_rows = vec![in self.rt.alloc(); used; many]?;
+        let mut ordered_rows = vec![in self.rt.alloc(); used; many]?;
         let mut heap = Heap::over(heap_rows.as_mut_slice());
         let mut row = OrderedRow::over(ordered_rows.as_mut_slice());
         self.play_all(&mut heap, &mut row, lines)?;

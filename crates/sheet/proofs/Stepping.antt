@@ -1,7 +1,7 @@
 -- The lines of a lawful run, one step at a time: what is left of the run leads on lawfully from some place, so the loss so
 -- far is within the bound, and its lines are what is left of the lines.
 use Rattle.std.proofs.Common.{◌≡◌, ℕ, ◌+◌, ◌<◌, ◌≤◌, Bool, true, false, List, [], ◌∷◌, ◌++◌, length, get_or, drop, Ok, sym, refl, ap, ◌∙◌, subst, arith}
-use Rattle.std.proofs.lemmas.List.{drop_more, drop_all, append_assoc, append-nil, length-append}
+use Rattle.std.proofs.lemmas.List.{drop_more, append_assoc, length-append}
 use Rattle.byte_slices.specs.Lay.{placed, over}
 use Rattle.byte_slices.proofs.Laid.{placed_ok, over_none, over_length, over_more}
 use Rattle.site.specs.declared.run.Step.{Step}

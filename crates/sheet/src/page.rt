@@ -2,6 +2,7 @@
 ghost use Rattle.std.specs.Prelude.{◌≡◌, ◌<◌, ◌≤◌, length, MatchResult};
 ghost use Rattle.byte_slices.specs.Lay.{placed, over};
 ghost use Rattle.charge.specs.Moneys as moneys;
+ghost use Rattle.refusal.specs.declared.Refusal.TheVariants.{NotLawful};
 ghost use Rattle.site.specs.Runs.{Run, total};
 ghost use Rattle.survey.specs.Sealing.{sealed_contents};
 ghost use Rattle.views.specs.SurveySite.{money_site};
@@ -32,12 +33,17 @@ fn put_sheet(drawn: &Drawn<'_, MoneyView<'_>>, sum: Money, out: &mut [u8]) -> Re
     if out.len() < ends {
         return Err(Refusal::NoRoom);
     }
-    let Some(_) = drawn.length(out.len() - ends) else {
-        return Err(Refusal::NoRoom);
-    };
+    drawn.length(out.len() - ends).ok_or(Refusal::NoRoom)?;
     let after_first = first.put_into(out, 0)?;
     let after_steps = drawn.put(out, after_first)?;
     last.put_into(out, after_steps)
+}
+
+// The total of a lawful run; other steps are refused.
+fn lawful_total(site: &MoneyView<'_>, request: Request, steps: &[Step]) -> Result<Money, Refusal>
+    ensures { MatchResult result (λ sum. Run (money_site (sealed_contents site.now.survey.now)) request steps.now × (sum ≡ total moneys.money (money_site (sealed_contents site.now.survey.now)) steps.now)) (λ e. (e ≡ NotLawful) × (Run (money_site (sealed_contents site.now.survey.now)) request steps.now → ⊥)) }
+{
+    total_of(site, request, steps).ok_or(Refusal::NotLawful)
 }
 
 // The sheet of a run that was drawn by hand or planned: it is written to the front of the bytes, and its length
@@ -53,16 +59,11 @@ pub fn sheet(
 {
     check_request(survey.places(), request)?;
     let site = &MoneyView::over(survey);
-    match total_of(site, request, steps) {
-        Some(sum) => put_sheet(
-            &Drawn {
-                site,
-                request,
-                steps,
-            },
-            sum,
-            out,
-        ),
-        None => Err(Refusal::NotLawful),
-    }
+    let sum = lawful_total(site, request, steps)?;
+    let drawn = Drawn {
+        site,
+        request,
+        steps,
+    };
+    put_sheet(&drawn, sum, out)
 }

@@ -41,8 +41,9 @@ fn arrive<S: Site>(site: &S, loss: usize, step: Step) -> Arrival
     }
 }
 
-// Steps that were drawn over a site for a request, whose bound can be asked for. (That they are lawful stands as a premise of
-// the calls: a ghost field has to be a fact with one proof at most, which is not shown of a run.)
+// Steps that were drawn over a site for a request, whose bound can be asked for. (That they are a lawful run was tried as a ghost
+// field too, and is refused: a ghost field has to be a fact with one proof at most, which is not shown of a run. So it stands as a
+// premise of the calls.)
 #[derive(Drop)]
 pub(crate) struct Drawn<'a, S: Site> {
     pub(crate) site: &'a S,

@@ -2,9 +2,7 @@
 // requests that are refused, and bytes that are too few.
 #![tactic(auto)]
 
-mod house;
-
-use crate::house::house;
+use four_places::house;
 use job::job::Job;
 use pricing::total_of;
 use sheet::page::sheet;
@@ -36,10 +34,7 @@ fn tell(
     let mut out = vec![in rt.alloc(); 0u8; bytes]?;
     match sheet(survey, asked, steps, &mut out) {
         Ok(length) => println!(rt; "{name}: {length} bytes")?,
-        Err(refusal) => {
-            let number = refusal.code();
-            println!(rt; "{name}: refused with {number}")?
-        }
+        Err(refusal) => println!(rt; "{name}: refused with {refusal}")?,
     }
     Ok(())
 }

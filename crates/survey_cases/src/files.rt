@@ -1,4 +1,5 @@
 // Files at and past each limit.
+use refusal::Fault;
 use std::alloc::{AllocError, Global};
 use survey::draft::Draft;
 use survey_file::reader::FileReader;
@@ -13,19 +14,14 @@ fn file(
     price: u32,
     behind: usize,
 ) -> Result<Vec<u8>, AllocError> {
+    let [_, high, middle, low] = price.to_be_bytes();
+    let way = [3, 0, 12, 0, 0, 0, 1, 83, 0, 0, metres, 0, high, middle, low];
     let mut bytes = Vec::new(heap);
     bytes.extend_from_slice(&[1, 0, 2, 0, 1])?;
-    for _ in 0..places {
-        bytes.extend_from_slice(&[2, 0, 0])?;
-    }
-    let [_, high, middle, low] = price.to_be_bytes();
-    for _ in 0..ways {
-        bytes.extend_from_slice(&[3, 0, 12, 0, 0, 0, 1, 83, 0, 0, metres, 0, high, middle, low])?;
-    }
+    bytes.extend_from_slice(&[2, 0, 0].repeat(heap, places)?)?;
+    bytes.extend_from_slice(&way.repeat(heap, ways)?)?;
     bytes.extend_from_slice(&[4, 0, 0])?;
-    for _ in 0..behind {
-        bytes.extend_from_slice(&[0])?;
-    }
+    bytes.extend_from_slice(&[0].repeat(heap, behind)?)?;
     Ok(bytes)
 }
 
@@ -43,10 +39,8 @@ pub fn answer_to(
             let ways = draft.ways();
             println!(rt; "{name}: {places} places, {ways} ways")?;
         }
-        Err(fault) => {
-            let number = fault.refusal.code();
-            let place = fault.place;
-            println!(rt; "{name}: refused with {number} at {place}")?;
+        Err(Fault { refusal, place }) => {
+            println!(rt; "{name}: refused with {refusal} at {place}")?;
         }
     }
     Ok(())

@@ -20,8 +20,5 @@ pub fn field_start(count: usize) -> usize {
 // Whether what stands in the draft is written as these 88 bytes.
 pub fn written(draft: Draft, file: &[u8; 88]) -> bool {
     let mut out = [0u8; 128];
-    match write(&draft.seal(), &mut out) {
-        Ok(length) => length == 88 && out[0..88] == file[0..88],
-        Err(_) => false,
-    }
+    write(&draft.seal(), &mut out) == Ok(88) && out.starts_with(file)
 }

@@ -14,7 +14,8 @@ use std::alloc::Global;
 use survey::draft::Draft;
 use survey_file::reader::FileReader;
 
-// Every proper front of the house is refused with 1, at the field that is cut. How many are.
+// Every proper front of the house is refused with 1, at the field that is cut. How many are. (It goes over numbers of bytes, since
+// these are the cases.)
 fn fronts(reader: &mut FileReader, draft: &mut Draft) -> usize {
     (0..88)
         .filter(|count| {
@@ -28,7 +29,8 @@ fn fronts(reader: &mut FileReader, draft: &mut Draft) -> usize {
 }
 
 // One byte of the house changed to another: refused, or read as another survey, whose file is the changed one. How many are
-// refused, how many read as another survey, and how many do neither.
+// refused, how many read as another survey, and how many do neither. (Loops over numbers: a place and what is added to its byte
+// are the case, and each turn leaves where there is no memory for its draft.)
 fn changes(reader: &mut FileReader, heap: Global) -> anyhow::Result<(usize, usize, usize)> {
     let mut refused = 0usize;
     let mut other = 0usize;

@@ -1,6 +1,7 @@
 -- What a field says is entered into the draft: the state that the reader answers is what the decoder says. By cases on
 -- whether the draft takes the entry.
-use Rattle.std.proofs.Common.{◌≡◌, ℕ, Ok, Err, Result, refl, ap, ◌∙◌}
+use Rattle.std.proofs.Common.{◌≡◌, ℕ, Ok, Err, Result, MatchResult, refl, ap, ◌∙◌, arith}
+use Rattle.std.specs.Result.{result_and}
 use Rattle.refusal.specs.declared.Refusal.{Refusal}
 use Rattle.refusal.specs.declared.Fault.{Fault}
 use Rattle.survey.specs.Contents.{Contents}
@@ -20,19 +21,16 @@ module _ {E : Type 0} (entered : Contents → E → Result Contents Refusal) (c 
   abbrev pub behind : Record E → State
   behind x = record { phase = p; at = x.next }
 
-  taken_by : (s : State) (e : Result Contents Refusal) → Ok s ≡ given s e → Ok s ≡ state_of (then (located e at) (λ d. Ok (record { state = s; entered = d })))
-  taken_by s (Ok d) taken = refl
-  taken_by s (Err e) taken = cc
+  moved : (s : State) (e : Result Contents Refusal) (q : Result ℕ Refusal) (m : Result ℕ Fault) → given s q ≡ given s e
+      → MatchResult q (λ n. m ≡ Ok n) (λ w. m ≡ Err (fault_of w at))
+      → result_and m (Ok s) ≡ state_of (then (located e at) (λ d. Ok (record { state = s; entered = d })))
+  moved s (Ok d) (Ok n) (Ok k) a b = refl
+  moved s (Err e) (Err w) (Err f) a b = grind arith
+  moved s e q m a b = grind arith
 
-  refused_by : (s : State) (e : Result Contents Refusal) (why : Refusal) → Err why ≡ given s e
-      → Err (fault_of why at) ≡ state_of (then (located e at) (λ d. Ok (record { state = s; entered = d })))
-  refused_by s (Ok d) why refused = cc
-  refused_by s (Err e) why refused = let same : why ≡ e = cc in ap (λ r. Err (fault_of r at)) same
-
-  -- an entry that the draft takes, and one that it refuses
-  pub entry_taken : (r : Result (Record E) Fault) (x : Record E) → Ok x ≡ r → Ok (behind x) ≡ given (behind x) (entered c x.entry) → Ok (behind x) ≡ state_of (entering r)
-  entry_taken r x read taken = taken_by (behind x) (entered c x.entry) taken ∙ ap (λ q. state_of (entering q)) read
-
-  pub entry_refused : (r : Result (Record E) Fault) (x : Record E) (why : Refusal) → Ok x ≡ r → Err why ≡ given (behind x) (entered c x.entry)
-      → Err (fault_of why at) ≡ state_of (entering r)
-  entry_refused r x why read refused = refused_by (behind x) (entered c x.entry) why refused ∙ ap (λ q. state_of (entering q)) read
+  -- a refusal is a fault of the field, and where there is none the reader has come behind it
+  pub entry_moved : (r : Result (Record E) Fault) (x : Record E) (s : Phase) (q : Result ℕ Refusal) (m : Result ℕ Fault) (out : Result State Fault) → Ok x ≡ r
+      → s ≡ p → given (behind x) q ≡ given (behind x) (entered c x.entry) → MatchResult q (λ n. m ≡ Ok n) (λ w. m ≡ Err (fault_of w at))
+      → out ≡ result_and m (Ok (record { phase = s; at = x.next })) → out ≡ state_of (entering r)
+  entry_moved r x s q m out read there told b both =
+      both ∙ ap (λ y. result_and m (Ok (record { phase = y; at = x.next }))) there ∙ moved (behind x) (entered c x.entry) q m told b ∙ ap (λ y. state_of (entering y)) read

@@ -1,11 +1,11 @@
 -- The fields of a file, one behind the other: what one entry more adds, and how many bytes there are.
 use Rattle.std.proofs.Common.{◌≡◌, ℕ, zero, suc, ◌+◌, ◌*◌, ◌≤◌, true, List, [], ◌∷◌, ◌++◌, length, take, Some, Ok, Err, Result, sym, refl, ap, ◌∙◌, add-one, arith}
 use Rattle.std.specs.List.{slice_get, All, flat_map}
-use Rattle.std.proofs.lemmas.List.{append-nil, append_assoc, length-append, take_all}
+use Rattle.std.proofs.lemmas.List.{append-nil, append_assoc, length-append}
 use Rattle.refusal.specs.declared.Refusal.{Refusal}
 use Rattle.survey_file.proofs.Answering.{ok_same}
 use Rattle.byte_slices.specs.Lay.{placed, over}
-use Rattle.byte_slices.proofs.Laid.{placed_fits, over_length, over_more, Front, front_fits, front_more}
+use Rattle.byte_slices.proofs.Laid.{placed_fits, over_length, over_more, Front, front_first, front_fits, front_more}
 use Rattle.byte_slices.proofs.Laid.{not_refused as refused-not}
 use Rattle.survey.specs.declared.entry.Place.{Place}
 use Rattle.survey.specs.declared.entry.WayEntry.{WayEntry}
@@ -90,53 +90,49 @@ module _ {X : Type 0} (f : X → List ℕ) (xs : List X) (before : List ℕ) (st
         bytes = is ∙ ap (λ o. over o at (f x)) so_far.bytes ∙ over_more before start at (flat_map f (take i xs)) (f x) here room-so-far ∙ ap (over before start) (sym fields);
       }
 
-  pub put_all : length xs ≤ i → Put f xs before start (length xs) at out
-  put_all h =
-      let all : take i xs ≡ take (length xs) xs = take_all i xs h ∙ sym (take_all (length xs) xs (omega arith)) in
-      record { next = so_far.next ∙ ap (λ ys. start + length (flat_map f ys)) all; bytes = so_far.bytes ∙ ap (λ ys. over before start (flat_map f ys)) all }
+-- bytes with room for the file of contents, whose places and ways were lent as those lists
+pub record HasRoom (before : List ℕ) (ps : List Place) (ws : List WayEntry) (c : Contents) : Type 0 where
+  pub places : ps ≡ c.places
+  pub ways : ws ≡ c.ways
+  pub room : length (file_of c) ≤ length before
 
--- contents whose places and ways are those lists
-pub same_contents : (ps : List Place) (ws : List WayEntry) (c : Contents) → ps ≡ c.places → ws ≡ c.ways → record { places = ps; ways = ws } ≡ c
-same_contents ps ws c p w i = record { places = p i; ways = w i }
-
--- the four parts of a file, laid one behind the other into bytes that have room for it
-module _ (before : List ℕ) (c : Contents) (room : length (file_of c) ≤ length before) where
+-- the four parts of the file, laid one behind the other into these bytes
+module _ (before : List ℕ) (ps : List Place) (ws : List WayEntry) (c : Contents) (r : HasRoom before ps ws c) where
   abbrev pub up_to_places : List ℕ
-  up_to_places = head_field ++ flat_map place_field c.places
+  up_to_places = head_field ++ flat_map place_field ps
 
   abbrev pub up_to_ways : List ℕ
-  up_to_ways = up_to_places ++ flat_map way_field c.ways
+  up_to_ways = up_to_places ++ flat_map way_field ws
 
-  room_parts : (length up_to_places ≤ length before) × (length up_to_ways ≤ length before) × (length (up_to_ways ++ end_field) ≤ length before)
-  room_parts =
-      let a = file_long c in
-      let b = length-append head_field (flat_map place_field c.places) in
-      let d = length-append up_to_places (flat_map way_field c.ways) in
-      let e = length-append up_to_ways end_field in
-      let w = ways_long c.ways in
-      (omega arith, omega arith, omega arith)
-
-  pub front_head : (a : ℕ) (o : List ℕ) → Ok a ≡ placed before 0 head_field → o ≡ over before 0 head_field → Front before head_field a o
-  front_head a o answered is =
-      let l = file_long c in
-      let fits : 0 + 5 ≤ length before = omega arith in
-      record { next = ok_same a 5 (answered ∙ placed_fits before 0 head_field fits); bytes = is }
-
-  pub front_places : (a b : ℕ) (o o' : List ℕ) → Front before head_field a o → ◌≡◌ {A = Result ℕ Refusal} (Ok b) (Ok (a + length (flat_map place_field c.places)))
-      → o' ≡ over o a (flat_map place_field c.places) → Front before up_to_places b o'
-  front_places a b o o' f answered is = front_more before head_field (flat_map place_field c.places) a o room_parts.0 f b o' (ok_same b (a + length (flat_map place_field c.places)) answered) is
-
-  pub ways_fit : (a : ℕ) (o : List ℕ) → Front before up_to_places a o → a + length (flat_map way_field c.ways) ≤ length o
-  ways_fit a o f = front_fits before up_to_places (flat_map way_field c.ways) a o room_parts.1 f
-
-  pub front_ways : (a b : ℕ) (o o' : List ℕ) → Front before up_to_places a o → ◌≡◌ {A = Result ℕ Refusal} (Ok b) (Ok (a + length (flat_map way_field c.ways)))
-      → o' ≡ over o a (flat_map way_field c.ways) → Front before up_to_ways b o'
-  front_ways a b o o' f answered is = front_more before up_to_places (flat_map way_field c.ways) a o room_parts.1 f b o' (ok_same b (a + length (flat_map way_field c.ways)) answered) is
+  lent : ◌≡◌ {A = Contents} (record { places = ps; ways = ws }) c
+  lent i = record { places = r.places i; ways = r.ways i }
 
   whole : up_to_ways ++ end_field ≡ file_of c
   whole =
-      append_assoc up_to_places (flat_map way_field c.ways) end_field
-      ∙ append_assoc head_field (flat_map place_field c.places) (flat_map way_field c.ways ++ end_field)
+      append_assoc up_to_places (flat_map way_field ws) end_field
+      ∙ append_assoc head_field (flat_map place_field ps) (flat_map way_field ws ++ end_field)
+      ∙ ap file_of lent
+
+  room_parts : (length up_to_places ≤ length before) × (length up_to_ways ≤ length before) × (length (up_to_ways ++ end_field) ≤ length before)
+  room_parts =
+      let all = ap length whole in
+      let fits = r.room in
+      let d = length-append up_to_places (flat_map way_field ws) in
+      let e = length-append up_to_ways end_field in
+      (omega arith, omega arith, omega arith)
+
+  pub front_places : (a b : ℕ) (o o' : List ℕ) → Ok a ≡ placed before 0 head_field → o ≡ over before 0 head_field
+      → ◌≡◌ {A = Result ℕ Refusal} (Ok b) (Ok (a + length (flat_map place_field ps))) → o' ≡ over o a (flat_map place_field ps) → Front before up_to_places b o'
+  front_places a b o o' head head_is answered is =
+      let begun = front_first before head_field (flat_map place_field ps) a o room_parts.0 head head_is in
+      front_more before head_field (flat_map place_field ps) a o room_parts.0 begun b o' (ok_same b (a + length (flat_map place_field ps)) answered) is
+
+  pub ways_fit : (a : ℕ) (o : List ℕ) → Front before up_to_places a o → a + length (flat_map way_field ws) ≤ length o
+  ways_fit a o f = front_fits before up_to_places (flat_map way_field ws) a o room_parts.1 f
+
+  pub front_ways : (a b : ℕ) (o o' : List ℕ) → Front before up_to_places a o → ◌≡◌ {A = Result ℕ Refusal} (Ok b) (Ok (a + length (flat_map way_field ws)))
+      → o' ≡ over o a (flat_map way_field ws) → Front before up_to_ways b o'
+  front_ways a b o o' f answered is = front_more before up_to_places (flat_map way_field ws) a o room_parts.1 f b o' (ok_same b (a + length (flat_map way_field ws)) answered) is
 
   pub end_answer : (a : ℕ) (o : List ℕ) → Front before up_to_ways a o → placed o a end_field ≡ placed before 0 (file_of c)
   end_answer a o f =
@@ -144,7 +140,7 @@ module _ (before : List ℕ) (c : Contents) (room : length (file_of c) ≤ lengt
       let together = length-append up_to_ways end_field in
       let is_whole = ap length whole in
       let same : a + 3 ≡ 0 + length (file_of c) = omega arith in
-      placed_fits o a end_field (front_fits before up_to_ways end_field a o room_parts.2 f) ∙ ap Ok same ∙ sym (placed_fits before 0 (file_of c) (omega arith))
+      placed_fits o a end_field (front_fits before up_to_ways end_field a o room_parts.2 f) ∙ ap Ok same ∙ sym (placed_fits before 0 (file_of c) (omega (arith, r.room)))
 
   pub end_bytes : (a : ℕ) (o : List ℕ) → Front before up_to_ways a o → over o a end_field ≡ over before 0 (file_of c)
   end_bytes a o f =

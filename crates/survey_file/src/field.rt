@@ -4,8 +4,8 @@ ghost use Rattle.survey_file.specs.Fields.{two_at, four_at, head_at, body_at, fa
 
 use refusal::{Fault, Refusal};
 
-// The first three bytes of a field. (The tag stays a byte: the reader matches it together with its phase, which is the form that
-// the rules of the project name, and every byte that is none of the four is refused alike.)
+// The first three bytes of a field. (The tag stays a byte: the reader matches it together with its phase, which docs/DECISIONS.md
+// tells under Forms, and every byte that is none of the four is refused alike.)
 #[derive(Clone, Copy)]
 pub struct Head {
     pub tag: u8,

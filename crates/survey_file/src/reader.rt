@@ -44,23 +44,28 @@ fn reached(phase: Phase, next: Result<usize, Fault>) -> Result<State, Fault>
     next.map(|at| State { phase, at })
 }
 
-// What a field says is entered into the draft, and the reader moves on behind it.
+// What a field says is entered into the draft, and the reader moves on behind it. (The closure makes the fault itself: of one that
+// calls `Field::fault` the caller learns nothing.)
 fn enter<E: Entry>(field: &Field<'_>, draft: &mut Draft) -> Result<State, Fault>
     ensures state { result ≡ state_of (enter E.Entry.said E.Entry.entered E.Entry.behind field.now.bytes.now field.now.at field.now.head (contents draft.old)) }
     ensures draft { contents draft.new ≡ contents_of (contents draft.old) (enter E.Entry.said E.Entry.entered E.Entry.behind field.now.bytes.now field.now.at field.now.head (contents draft.old)) }
     ensures goes { IfOk result (λ t. (field.now.at < t.at) × (t.at ≤ length field.now.bytes.now)) }
 {
     let record = E::read(field)?;
-    match record.entry.enter(draft) {
-        Ok(_) => Ok(State {
-            phase: E::phase(),
-            at: record.next,
-        }),
-        Err(refusal) => Err(field.fault(refusal)),
-    }
+    let place = field.at;
+    let behind = State {
+        phase: E::phase(),
+        at: record.next,
+    };
+    record
+        .entry
+        .enter(draft)
+        .map_err(|refusal| Fault { refusal, place })
+        .and(Ok(behind))
 }
 
-// One field.
+// One field. (The pair of phase and tag is matched, a line to each pair that the format has: the phase is what was read so far, the
+// tag what comes, and neither alone says whether the field may stand there. docs/DECISIONS.md, under Forms, has more.)
 fn turn(bytes: &[u8], s: State, draft: &mut Draft) -> Result<State, Fault>
     requires { s.at ≤ length bytes.now }
     ensures state { result ≡ state_of (turn_of bytes.now s (contents draft.old)) }
@@ -81,7 +86,7 @@ fn turn(bytes: &[u8], s: State, draft: &mut Draft) -> Result<State, Fault>
     }
 }
 
-// A whole file is read into an empty draft.
+// A whole file is read into an empty draft. (The loop counts nothing: a turn gives the next state, until the last phase is reached.)
 fn fill(bytes: &[u8], draft: &mut Draft) -> Result<(), Fault>
     requires { contents draft.old ≡ no_contents }
     ensures answer { result ≡ given tt (decode bytes.now) }

@@ -1,6 +1,6 @@
 -- The first line, the lines of the steps and the last line are laid one behind the other, and there is room for each.
 use Rattle.std.proofs.Common.{◌≡◌, ℕ, ◌≤◌, List, ◌++◌, length, refl, ap, ◌∙◌, arith}
-use Rattle.byte_slices.specs.Lay.{placed, over}
+use Rattle.byte_slices.specs.Lay.{over}
 use Rattle.byte_slices.proofs.Laid.{parts_long, three_laid}
 use Rattle.survey.specs.Sealing.{sealed_contents}
 use Rattle.views.specs.SurveySite.{money_site}
@@ -12,21 +12,18 @@ use Rattle.sheet.proofs.page.put_sheet.Goals as goal
 same_parts : (a a' b b' c c' : List ℕ) → a ≡ a' → b ≡ b' → c ≡ c' → a ++ (b ++ c) ≡ a' ++ (b' ++ c')
 same_parts a a' b b' c c' e f g = ap (λ x. x ++ (b ++ c)) e ∙ ap (λ x. a' ++ (x ++ c)) f ∙ ap (λ x. a' ++ (b' ++ x)) g
 
-pub returns : goal.returns
-returns c =
+pub returns-clause-after : goal.returns-clause-after
+returns-clause-after c =
     let out = c.args.out.now in
     let steps = step_lines (money_site (sealed_contents c.args.drawn.now.site.now.survey.now)) 0 c.args.drawn.now.steps.now in
     let first = text_of c.run_line-first.result in
     let last = text_of c.total_line-last.result in
     let text = same_parts first _ steps steps last _ c.run_line-first.ensures refl (c.total_line-last.ensures ∙ ap total_line c.requires.sum) in
     let long = parts_long first steps last in
-    let measured = c.in-Some.ensures in
+    let measured = rw c.in_ok-ok_or.ensures.ok_part at c.length.ensures in
     let room : length (first ++ (steps ++ last)) ≤ length out = omega (arith, c.len.ensures, c.len-2.ensures, c.if-out-ends.false, measured.0, measured.1) in
     let told = c.in_ok-after_first.ensures in
     let told-steps = c.in_ok-after_steps.ensures in
     let laid = three_laid out first steps last room c.in_ok-after_first.after_first c.in_ok-after_steps.after_steps c.put_into.new.out c.put.new.out
     told.answer told.after told-steps.answer told-steps.after in
-    record {
-      answer = c.put_into-2.ensures.answer ∙ laid.0 ∙ ap (placed out 0) text;
-      after = c.put_into-2.ensures.after ∙ laid.1 ∙ ap (over out 0) text;
-    }
+    c.put_into-2.ensures.after ∙ laid.1 ∙ ap (over out 0) text

@@ -1,23 +1,19 @@
 -- What was read is entered, and the reader moves on behind the field; or the draft refuses it.
-use Rattle.std.proofs.Common.{Ok, Err, ap, ◌∙◌}
+use Rattle.std.proofs.Common.{◌≡◌, ℕ, Ok, Err, MatchResult, rules}
+use Rattle.std.proofs.lemmas.Result.{MatchResult-weaker}
+use Rattle.refusal.specs.declared.Refusal.{Refusal}
 use Rattle.survey.specs.Contents.{contents}
-use Rattle.survey_file.proofs.Entering.{behind, entry_taken, entry_refused}
+use Rattle.survey_file.specs.Fields.{fault_of}
+use Rattle.survey_file.proofs.Entering.{behind, entry_moved}
 use Rattle.survey_file.proofs.reader.enter.Goals as goal
 
-pub returns-in-Ok-clause-state : goal.returns-in-Ok-clause-state
-returns-in-Ok-clause-state g c =
+pub returns-clause-state : goal.returns-clause-state
+returns-clause-state g c =
     let before = contents c.args.draft.now in
     let at = c.args.field.now.at in
     let read = c.in_ok-record.record in
     let here = behind g.E.Entry.entered before g.E.Entry.behind at read in
-    ap (λ p. Ok (record { phase = p; at = c.in_ok-record.record.next })) c.phase.ensures
-    ∙ entry_taken g.E.Entry.entered before g.E.Entry.behind at _ read c.in_ok-record.ensures.value (c.in-Ok.ensures.answer here)
-
-pub returns-in-Err-clause-state : goal.returns-in-Err-clause-state
-returns-in-Err-clause-state g c =
-    let before = contents c.args.draft.now in
-    let at = c.args.field.now.at in
-    let read = c.in_ok-record.record in
-    let here = behind g.E.Entry.entered before g.E.Entry.behind at read in
-    ap Err c.fault.ensures
-    ∙ entry_refused g.E.Entry.entered before g.E.Entry.behind at _ read c.in-Err.refusal c.in_ok-record.ensures.value (c.in-Err.ensures.answer here)
+    let faulted : MatchResult {T = ℕ} {E = Refusal} c.enter.result (λ n. c.map_err.result ≡ Ok n) (λ w. c.map_err.result ≡ Err (fault_of w at)) =
+    MatchResult-weaker {X = ℕ} {Y = Refusal} c.enter.result c.map_err.ensures.cases (λ n e. e) (λ w e. search rules) in
+    entry_moved g.E.Entry.entered before g.E.Entry.behind at _ read c.phase.result c.enter.result c.map_err.result c.and.result c.in_ok-record.ensures.value
+    c.phase.ensures (c.enter.ensures.answer here) faulted c.and.ensures
