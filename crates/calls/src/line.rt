@@ -81,8 +81,8 @@ pub fn read_call(heap: Global, line: &str) -> Result<Option<Call>, AllocError>
 pub fn read_line(heap: Global, line: &[u8]) -> Result<Option<Call>, AllocError>
     ensures { IfOk result (λ o. MatchOption o (NoCall line.now) (λ c. line.now ≡ call_text c)) }
 {
-    match from_utf8(line) {
-        Ok(text) => read_call(heap, text),
-        Err(_) => Ok(None),
-    }
+    let Ok(text) = from_utf8(line) else {
+        return Ok(None);
+    };
+    read_call(heap, text)
 }

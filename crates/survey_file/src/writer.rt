@@ -12,7 +12,7 @@ use refusal::Refusal;
 use survey::entry::Place;
 use survey::sealed::Sealed;
 
-// How many bytes the field of a place has.
+// How many bytes the field of a place has. (A blank and a price are the two cases of the format.)
 fn place_length(place: &Place) -> usize
     ensures { result ≡ length (place_field place.now) }
 {

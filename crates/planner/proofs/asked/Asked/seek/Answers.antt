@@ -1,11 +1,11 @@
 -- Each turn settles one more row, so the loop ends. A taken cell of the end has the lowest total; where nothing waits no run is
 -- lawful; any other cell is settled and its ways are offered, which keeps the state.
-use Rattle.std.proofs.Common.{refl, arith}
+use Rattle.std.proofs.Common.{is_some, refl, ap, arith}
 use lib.ListN.{length-map}
 use Rattle.site.specs.Whole.{kind_of}
 use Rattle.search.specs.Search.{Laws}
 use Rattle.search.proofs.Covers.{no_run}
-use Rattle.search.proofs.Turns.{taken_inside, taken_short, taken_found, settle_turn, settle_count}
+use Rattle.search.proofs.Turns.{taken_inside, taken_reached, taken_short, taken_found, settle_turn, settle_count}
 use Rattle.planner.proofs.Kept.{one_more, still_ready}
 use Rattle.planner.proofs.asked.Asked.seek.Given as given
 use Rattle.planner.proofs.asked.Asked.seek.Goals as goal
@@ -23,6 +23,14 @@ returns-then-ends g c =
       same = one_more inv.same (record { cells = refl; queue = refl; many_cells = refl; rows = took.rows });
       answer = taken_found _ (laws_of g) _ _ _ _ _ _ _ inv.rest.books took.answer.1 inv.rest.searching (c.if-ends.ensures.yes refl);
     }
+
+pub settle-here-requires : goal.settle-here-requires
+settle-here-requires g c =
+    let inv = c.loop-at.invariant in
+    let size = length-map c.loop-at.work.cells.now (λ r. r.cell) in
+    let taken = c.in-Some.ensures.answer.1 in
+    let inside = taken_inside _ (laws_of g) _ _ _ _ _ _ _ inv.rest.books taken in
+    record { inside = omega arith; reached = ap is_some (taken_reached _ (laws_of g) _ _ _ _ _ _ _ inv.rest.books taken) }
 
 pub visit-requires : goal.visit-requires
 visit-requires g c =
