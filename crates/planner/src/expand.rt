@@ -8,7 +8,7 @@ ghost use Rattle.search.specs.Columns.{cells_of};
 ghost use Rattle.planner.specs.Work.{Ready, SameWork, AtTurn, AtRest};
 
 use crate::asked::Asked;
-use crate::work::Work;
+use crate::work::{Settled, Work};
 use queue::queue::PriorityQueue;
 use search::cell::{Link, Reached};
 use search::step::{charge_after, loss_after, markable, within_bound};
@@ -17,25 +17,25 @@ use site::site::Site;
 use site::way::Way;
 
 impl<S: Site> Asked<'_, S> {
-    // Offers the cell to which a lawful step over the way `w` leads from the settled cell `at`.
+    // Offers the cell to which a lawful step over the way `w` leads from a settled cell.
     fn arrive<Q: PriorityQueue<Charge = S::Charge>>(
         &self,
         work: &mut Work<'_, '_, S::Charge, Q>,
-        at: usize,
-        here: Reached<S::Charge>,
+        from: Settled<S::Charge>,
         step: Step,
         w: Way<S::Charge>,
     )
         requires ready { Ready (S.Site.meaning self.now.site.now) self.now.request Q.PriorityQueue.many Q.PriorityQueue.ordered work.old }
-        requires turn { AtTurn (kind_of S.Charge.Charge) (S.Site.meaning self.now.site.now) self.now.request Q.PriorityQueue.waits work.old at here }
-        requires goes { Goes (S.Site.meaning self.now.site.now) self.now.request (place_of self.now.request at) (loss_of self.now.request at) step w }
+        requires turn { AtTurn (kind_of S.Charge.Charge) (S.Site.meaning self.now.site.now) self.now.request Q.PriorityQueue.waits work.old from.at from.here }
+        requires goes { Goes (S.Site.meaning self.now.site.now) self.now.request (place_of self.now.request from.at) (loss_of self.now.request from.at) step w }
         ensures ready { Ready (S.Site.meaning self.now.site.now) self.now.request Q.PriorityQueue.many Q.PriorityQueue.ordered work.new }
         ensures same { SameWork Q.PriorityQueue.many Q.PriorityQueue.lenders work.old work.new }
         ensures count { settled_count (cells_of work.new.cells.now) ≡ settled_count (cells_of work.old.cells.now) }
-        ensures turn { AtTurn (kind_of S.Charge.Charge) (S.Site.meaning self.now.site.now) self.now.request Q.PriorityQueue.waits work.new at here }
+        ensures turn { AtTurn (kind_of S.Charge.Charge) (S.Site.meaning self.now.site.now) self.now.request Q.PriorityQueue.waits work.new from.at from.here }
         ensures keeps { Keeps (kind_of S.Charge.Charge) self.now.request (done_in (cells_of work.old.cells.now)) (Q.PriorityQueue.waits work.old.queue.now) (done_in (cells_of work.new.cells.now)) (Q.PriorityQueue.waits work.new.queue.now) }
-        ensures covered { Covered (kind_of S.Charge.Charge) self.now.request (done_in (cells_of work.new.cells.now)) (Q.PriorityQueue.waits work.new.queue.now) w.to (loss_after step.mark (loss_of self.now.request at + w.loss)) (after_way (kind_of S.Charge.Charge) (S.Site.meaning self.now.site.now) here.charge step.mark (Some w)) }
+        ensures covered { Covered (kind_of S.Charge.Charge) self.now.request (done_in (cells_of work.new.cells.now)) (Q.PriorityQueue.waits work.new.queue.now) w.to (loss_after step.mark (loss_of self.now.request from.at + w.loss)) (after_way (kind_of S.Charge.Charge) (S.Site.meaning self.now.site.now) from.here.charge step.mark (Some w)) }
     {
+        let Settled { at, here } = from;
         let loss = loss_after(step.mark, self.loss_of(at) + w.loss as usize);
         let target = self.cell_of(w.to, loss);
         let charge = charge_after(self.site, here.charge, step.mark, w);
@@ -49,34 +49,32 @@ impl<S: Site> Asked<'_, S> {
         );
     }
 
-    // Offers the way `n` from the settled cell `at`: without a mark and, where one may stand, with a mark too.
+    // Offers the way `n` from a settled cell: without a mark and, where one may stand, with a mark too.
     fn offer_way<Q: PriorityQueue<Charge = S::Charge>>(
         &self,
         work: &mut Work<'_, '_, S::Charge, Q>,
-        at: usize,
-        here: Reached<S::Charge>,
+        from: Settled<S::Charge>,
         n: usize,
     )
         requires ready { Ready (S.Site.meaning self.now.site.now) self.now.request Q.PriorityQueue.many Q.PriorityQueue.ordered work.old }
-        requires turn { AtTurn (kind_of S.Charge.Charge) (S.Site.meaning self.now.site.now) self.now.request Q.PriorityQueue.waits work.old at here }
+        requires turn { AtTurn (kind_of S.Charge.Charge) (S.Site.meaning self.now.site.now) self.now.request Q.PriorityQueue.waits work.old from.at from.here }
         ensures ready { Ready (S.Site.meaning self.now.site.now) self.now.request Q.PriorityQueue.many Q.PriorityQueue.ordered work.new }
         ensures same { SameWork Q.PriorityQueue.many Q.PriorityQueue.lenders work.old work.new }
         ensures count { settled_count (cells_of work.new.cells.now) ≡ settled_count (cells_of work.old.cells.now) }
-        ensures turn { AtTurn (kind_of S.Charge.Charge) (S.Site.meaning self.now.site.now) self.now.request Q.PriorityQueue.waits work.new at here }
+        ensures turn { AtTurn (kind_of S.Charge.Charge) (S.Site.meaning self.now.site.now) self.now.request Q.PriorityQueue.waits work.new from.at from.here }
         ensures keeps { Keeps (kind_of S.Charge.Charge) self.now.request (done_in (cells_of work.old.cells.now)) (Q.PriorityQueue.waits work.old.queue.now) (done_in (cells_of work.new.cells.now)) (Q.PriorityQueue.waits work.new.queue.now) }
-        ensures offered { Offered (kind_of S.Charge.Charge) (S.Site.meaning self.now.site.now) self.now.request (done_in (cells_of work.new.cells.now)) (Q.PriorityQueue.waits work.new.queue.now) at here.charge n }
+        ensures offered { Offered (kind_of S.Charge.Charge) (S.Site.meaning self.now.site.now) self.now.request (done_in (cells_of work.new.cells.now)) (Q.PriorityQueue.waits work.new.queue.now) from.at from.here.charge n }
     {
         if let Some(w) = self.site.way(n) {
-            if w.from != self.place_of(at) {
+            if w.from != self.place_of(from.at) {
                 return;
             }
-            if !within_bound(self.request, self.loss_of(at), w.loss) {
+            if !within_bound(self.request, self.loss_of(from.at), w.loss) {
                 return;
             }
             self.arrive(
                 work,
-                at,
-                here,
+                from,
                 Step {
                     way: n,
                     mark: false,
@@ -84,23 +82,22 @@ impl<S: Site> Asked<'_, S> {
                 w,
             );
             if markable(self.site, self.request, w.to) {
-                self.arrive(work, at, here, Step { way: n, mark: true }, w);
+                self.arrive(work, from, Step { way: n, mark: true }, w);
             }
         }
     }
 
-    // Offers every way out of the settled cell `at`: first those past the index, one by one, then those that the index has.
+    // Offers every way out of a settled cell: first those past the index, one by one, then those that the index has.
     // (The first by number, since a site tells its ways by number and has no list of them.)
     #[tactic(auto, using(search::proofs::Trails::place_below))]
     pub fn expand<Q: PriorityQueue<Charge = S::Charge>>(
         &self,
         work: &mut Work<'_, '_, S::Charge, Q>,
-        at: usize,
-        here: Reached<S::Charge>,
+        from: Settled<S::Charge>,
     )
         requires ready { Ready (S.Site.meaning self.now.site.now) self.now.request Q.PriorityQueue.many Q.PriorityQueue.ordered work.old }
-        requires inside { at < length work.old.cells.now }
-        requires turn { AtTurn (kind_of S.Charge.Charge) (S.Site.meaning self.now.site.now) self.now.request Q.PriorityQueue.waits work.old at here }
+        requires inside { from.at < length work.old.cells.now }
+        requires turn { AtTurn (kind_of S.Charge.Charge) (S.Site.meaning self.now.site.now) self.now.request Q.PriorityQueue.waits work.old from.at from.here }
         ensures ready { Ready (S.Site.meaning self.now.site.now) self.now.request Q.PriorityQueue.many Q.PriorityQueue.ordered work.new }
         ensures same { SameWork Q.PriorityQueue.many Q.PriorityQueue.lenders work.old work.new }
         ensures count { settled_count (cells_of work.new.cells.now) ≡ settled_count (cells_of work.old.cells.now) }
@@ -109,11 +106,11 @@ impl<S: Site> Asked<'_, S> {
         let ways = self.site.ways();
         let limit = ways.min(work.cells.len());
         for n in limit..ways {
-            self.offer_way(work, at, here, n);
+            self.offer_way(work, from, n);
         }
-        let mut after = work.cells[self.place_of(at)].head;
+        let mut after = work.cells[self.place_of(from.at)].head;
         while let Some(way) = after {
-            self.offer_way(work, at, here, way);
+            self.offer_way(work, from, way);
             after = work.cells[way].next;
         }
     }

@@ -7,7 +7,7 @@ ghost use Rattle.search.specs.Columns.{cells_of};
 ghost use Rattle.planner.specs.Work.{Ready, SameWork, AtRest};
 
 use crate::asked::Asked;
-use crate::work::{Work, settle};
+use crate::work::{Settled, Work, settle};
 use queue::queue::PriorityQueue;
 use site::site::Site;
 
@@ -28,7 +28,7 @@ impl<S: Site> Asked<'_, S> {
                 return Some(at);
             }
             let here = settle(work.cells, at);
-            self.visit(work, at, here);
+            self.visit(work, Settled { at, here });
         }
         None
     }

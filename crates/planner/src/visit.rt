@@ -6,10 +6,10 @@ ghost use Rattle.search.specs.Columns.{cells_of};
 ghost use Rattle.planner.specs.Work.{Ready, SameWork, AtTurn, AtRest};
 
 use crate::asked::Asked;
-use crate::work::{Work, set_hint};
+use crate::work::{Settled, Work, set_hint};
 use charge::kind::Charge;
 use queue::queue::PriorityQueue;
-use search::cell::{Cell, Reached};
+use search::cell::Cell;
 use site::site::Site;
 
 // Whether a cell is settled.
@@ -44,27 +44,26 @@ impl<S: Site> Asked<'_, S> {
         is_settled(work.cells[hint].cell)
     }
 
-    // Offers the ways out of the cell `at`, which was settled just now, unless it is dominated: then each of them leads where
+    // Offers the ways out of a cell that was settled just now, unless it is dominated: then each of them leads where
     // the dominating cell's has led with no more loss for no more.
     pub fn visit<Q: PriorityQueue<Charge = S::Charge>>(
         &self,
         work: &mut Work<'_, '_, S::Charge, Q>,
-        at: usize,
-        here: Reached<S::Charge>,
+        from: Settled<S::Charge>,
     )
         requires ready { Ready (S.Site.meaning self.now.site.now) self.now.request Q.PriorityQueue.many Q.PriorityQueue.ordered work.old }
-        requires inside { at < length work.old.cells.now }
-        requires turn { AtTurn (kind_of S.Charge.Charge) (S.Site.meaning self.now.site.now) self.now.request Q.PriorityQueue.waits work.old at here }
+        requires inside { from.at < length work.old.cells.now }
+        requires turn { AtTurn (kind_of S.Charge.Charge) (S.Site.meaning self.now.site.now) self.now.request Q.PriorityQueue.waits work.old from.at from.here }
         ensures ready { Ready (S.Site.meaning self.now.site.now) self.now.request Q.PriorityQueue.many Q.PriorityQueue.ordered work.new }
         ensures same { SameWork Q.PriorityQueue.many Q.PriorityQueue.lenders work.old work.new }
         ensures count { settled_count (cells_of work.new.cells.now) ≡ settled_count (cells_of work.old.cells.now) }
         ensures rest { AtRest (kind_of S.Charge.Charge) (S.Site.meaning self.now.site.now) self.now.request Q.PriorityQueue.waits work.new }
     {
-        if self.dominated(&*work, at) {
+        if self.dominated(&*work, from.at) {
             return;
         }
-        let place = self.place_of(at);
-        set_hint(work.cells, place, at);
-        self.expand(work, at, here);
+        let place = self.place_of(from.at);
+        set_hint(work.cells, place, from.at);
+        self.expand(work, from);
     }
 }

@@ -10,7 +10,8 @@ use charge::kind::Charge;
 use queue::queue::PriorityQueue;
 use search::cell::{Cell, Reached, Row};
 
-// Cell rows and a queue.
+// Cell rows and a queue. (What holds of them between two steps of a search is told by clauses and no ghost fields: it speaks of
+// the site and the request too, and a cell may be covered in more ways than one.)
 #[derive(Drop)]
 pub struct Work<'c, 'q, C, Q> {
     pub cells: &'c mut [Row<C>],
@@ -18,11 +19,18 @@ pub struct Work<'c, 'q, C, Q> {
 }
 
 // How the cell `at` was reached.
-fn reached_at<C: Charge>(cells: &[Row<C>], at: usize) -> Reached<C>
+pub fn reached_at<C: Charge>(cells: &[Row<C>], at: usize) -> Reached<C>
     requires { IsSome (reached_in (cells_of cells.now) at) }
     ensures { reached_in (cells_of cells.now) at ≡ Some result }
 {
     cells[at].cell.reached().unwrap()
+}
+
+// A settled cell, and how it was reached.
+#[derive(Clone, Copy)]
+pub struct Settled<C> {
+    pub at: usize,
+    pub here: Reached<C>,
 }
 
 // Whether a cell is to be reached anew with this charge: it was never reached, or waits with more.
@@ -38,14 +46,6 @@ fn better<C: Charge>(old: Cell<C>, charge: C) -> bool
 
 impl<C: Charge, Q: PriorityQueue<Charge = C>> Work<'_, '_, C, Q> {
     ghost use Rattle.planner.specs.Work.{SameWork};
-
-    // How the cell `at` was reached.
-    pub fn reached_at(&self, at: usize) -> Reached<C>
-        requires { IsSome (reached_in (cells_of self.now.cells.now) at) }
-        ensures { reached_in (cells_of self.now.cells.now) at ≡ Some result }
-    {
-        reached_at(&*self.cells, at)
-    }
 
     // Lets the cell `at` wait as reached by `new`, in its row and in the queue.
     pub fn wait(&mut self, at: usize, new: Reached<C>)

@@ -35,7 +35,7 @@ offer-requires g c =
     let b = g.S.Site.bounded c.args.self.now.site.now in
     let m = g.S.Site.meaning c.args.self.now.site.now in
     let r = c.requires.ready.room in
-    let lost : c.loss_after-loss.result ≡ loss_after c.args.step.mark (loss_of c.args.self.now.request c.args.at + c.args.w.loss) = c.loss_after-loss.ensures ∙ ap (λ (z : ℕ). loss_after c.args.step.mark (z + c.args.w.loss)) c.loss_of.ensures.same in
+    let lost : c.loss_after-loss.result ≡ loss_after c.args.step.mark (loss_of c.args.self.now.request c.args.from.at + c.args.w.loss) = c.loss_after-loss.ensures ∙ ap (λ (z : ℕ). loss_after c.args.step.mark (z + c.args.w.loss)) c.loss_of.ensures.same in
     let low = after_low c.args.self.now.request c.args.step.mark _ _ c.requires.goes.arrives lost in
     let h : c.loss_after-loss.result < c.args.self.now.request.bound + 1 = omega (arith, low) in
     let lt : c.args.w.to * (c.args.self.now.request.bound + 1) + c.loss_after-loss.result < m.places * (c.args.self.now.request.bound + 1) = digits_lt (b.to_in _ _ c.requires.goes.opens) h in
@@ -45,8 +45,8 @@ offer-requires g c =
       room = omega (arith, r.queue_suffices);
       ordered = c.requires.ready.ordered;
       agree = c.requires.turn.books.agree;
-      low = λ e q. laws.transitive e c.args.here.charge _ (c.requires.turn.expanding.below c.cell_of-target.result e q)
-          (subst (λ z. g.S.Charge.Charge.within c.args.here.charge z ≡ true) (sym c.charge_after-charge.ensures) (step_rises (kind_of g.S.Charge.Charge) laws m c.args.here.charge c.args.step.mark (Some c.args.w)));
+      low = λ e q. laws.transitive e c.args.from.here.charge _ (c.requires.turn.expanding.below c.cell_of-target.result e q)
+          (subst (λ z. g.S.Charge.Charge.within c.args.from.here.charge z ≡ true) (sym c.charge_after-charge.ensures) (step_rises (kind_of g.S.Charge.Charge) laws m c.args.from.here.charge c.args.step.mark (Some c.args.w)));
     }
 
 pub returns : goal.returns
@@ -61,8 +61,8 @@ returns g c =
     let waits = g.Q.PriorityQueue.waits c.args.work.now.queue.now in
     let waits' = g.Q.PriorityQueue.waits c.offer.new.self.queue.now in
     let at = c.cell_of-target.result in
-    let new : Reached g.row.S-Charge.Denot = record { charge = c.charge_after-charge.result; link = Some (record { from = c.args.at; step = c.args.step }); steps = c.args.here.steps + 1 } in
-    let lost : c.loss_after-loss.result ≡ loss_after c.args.step.mark (loss_of c.args.self.now.request c.args.at + c.args.w.loss) = c.loss_after-loss.ensures ∙ ap (λ (z : ℕ). loss_after c.args.step.mark (z + c.args.w.loss)) c.loss_of.ensures.same in
+    let new : Reached g.row.S-Charge.Denot = record { charge = c.charge_after-charge.result; link = Some (record { from = c.args.from.at; step = c.args.step }); steps = c.args.from.here.steps + 1 } in
+    let lost : c.loss_after-loss.result ≡ loss_after c.args.step.mark (loss_of c.args.self.now.request c.args.from.at + c.args.w.loss) = c.loss_after-loss.ensures ∙ ap (λ (z : ℕ). loss_after c.args.step.mark (z + c.args.w.loss)) c.loss_of.ensures.same in
     let low = after_low c.args.self.now.request c.args.step.mark _ _ c.requires.goes.arrives lost in
     let h : c.loss_after-loss.result < c.args.self.now.request.bound + 1 = omega (arith, low) in
     let lt : c.args.w.to * (c.args.self.now.request.bound + 1) + c.loss_after-loss.result < m.places * (c.args.self.now.request.bound + 1) = digits_lt (b.to_in _ _ c.requires.goes.opens) h in
@@ -71,9 +71,9 @@ returns g c =
     let place = cell_place c.args.self.now.request c.args.w.to _ at low c.cell_of-target.ensures in
     let loss = cell_loss c.args.self.now.request c.args.w.to _ at low c.cell_of-target.ensures ∙ lost in
     let next : Next k m c.args.self.now.request rows at new = record {
-      by = record { from = c.args.at; step = c.args.step };
+      by = record { from = c.args.from.at; step = c.args.step };
       link = refl;
-      before = c.args.here;
+      before = c.args.from.here;
       row = turn.row;
       over = c.args.w;
       goes = c.requires.goes;
@@ -82,14 +82,14 @@ returns g c =
       charge = c.charge_after-charge.ensures;
       steps = refl;
     } in
-    let up : g.S.Charge.Charge.within c.args.here.charge new.charge ≡ true = subst (λ z. g.S.Charge.Charge.within c.args.here.charge z ≡ true) (sym c.charge_after-charge.ensures) (step_rises k laws m c.args.here.charge c.args.step.mark (Some c.args.w)) in
+    let up : g.S.Charge.Charge.within c.args.from.here.charge new.charge ≡ true = subst (λ z. g.S.Charge.Charge.within c.args.from.here.charge z ≡ true) (sym c.charge_after-charge.ensures) (step_rises k laws m c.args.from.here.charge c.args.step.mark (Some c.args.w)) in
     let o = c.offer.ensures.offered in
     record {
       ready = still_ready c.requires.ready c.offer.ensures.same c.offer.ensures.ordered c.offer.ensures.index;
       same = c.offer.ensures.same;
       count = offer_count k laws m c.args.self.now.request rows rows' waits waits' at new inside o;
-      turn = offer_turn k laws m c.args.self.now.request rows rows' waits waits' at new inside o c.args.at c.args.here turn up next (let f = turn.books.fewer _ _ turn.row in omega arith);
+      turn = offer_turn k laws m c.args.self.now.request rows rows' waits waits' at new inside o c.args.from.at c.args.from.here turn up next (let f = turn.books.fewer _ _ turn.row in omega arith);
       keeps = λ p l sum h. offer_covered_on k laws m c.args.self.now.request rows rows' waits waits' at new inside o p l sum h;
-      covered = subst (λ z. Covered k c.args.self.now.request (done_in rows') waits' c.args.w.to (loss_after c.args.step.mark (loss_of c.args.self.now.request c.args.at + c.args.w.loss)) z) c.charge_after-charge.ensures
+      covered = subst (λ z. Covered k c.args.self.now.request (done_in rows') waits' c.args.w.to (loss_after c.args.step.mark (loss_of c.args.self.now.request c.args.from.at + c.args.w.loss)) z) c.charge_after-charge.ensures
           (offer_covered_at k laws m c.args.self.now.request rows rows' waits waits' at new inside o c.args.w.to _ place loss);
     }

@@ -33,7 +33,7 @@ loop-n-preserved g c =
       e.count ∙ inv.2,
       e.turn,
       λ i a b. elim (cases_eq i c.loop-n.n) [
-        | inl q ↦ subst (λ (z : ℕ). Offered (kind_of g.S.Charge.Charge) m c.args.self.now.request (done_in rows) waits c.args.at c.args.here.charge z) (sym q) e.offered
+        | inl q ↦ subst (λ (z : ℕ). Offered (kind_of g.S.Charge.Charge) m c.args.self.now.request (done_in rows) waits c.args.from.at c.args.from.here.charge z) (sym q) e.offered
         | inr ne ↦ (λ mark w v. e.keeps _ _ _ (inv.4 i a (omega arith) mark w v))
       ],
     )
@@ -43,10 +43,10 @@ loop-after-init g c =
     let m = g.S.Site.meaning c.args.self.now.site.now in
     let inv = c.loop-n.invariant in
     let limit = c.min-limit.result in
-    let p = place_of c.args.self.now.request c.args.at in
+    let p = place_of c.args.self.now.request c.args.from.at in
     let lim : min m.ways (length c.loop-n.work.cells.now) ≡ limit = sym (c.min-limit.ensures ∙ ap (λ (z : ℕ). min z (length c.args.work.now.cells.now)) c.ways-ways.ensures ∙ ap (λ (z : ℕ). min m.ways z) (sym inv.1.many_cells)) in
     let rows = c.loop-n.work.cells.now in
-    let inside : c.place_of.result < length rows = omega (arith, place_below c.args.self.now.request c.args.at, c.place_of.ensures, c.requires.inside, inv.1.many_cells) in
+    let inside : c.place_of.result < length rows = omega (arith, place_below c.args.self.now.request c.args.from.at, c.place_of.ensures, c.requires.inside, inv.1.many_cells) in
     let e = read_column (λ r. r.head) rows c.place_of.result c.index-work-place_of.result None inside ∙ ap (λ (z : ℕ). get_or (heads_of rows) z None) c.place_of.ensures in
     let l = subst (λ (z : Option ℕ). Largest m p limit z) (sym e) (subst (λ (z : ℕ). Largest m p z (get_or (heads_of rows) p None)) lim (inv.0.indexed.of_place p)) in (
       inv.0,
@@ -60,12 +60,12 @@ loop-after-init g c =
 
 -- the link behind the way that was offered: below it stands the next smaller way that leaves the place
 link : (g : given.Over) (c : goal.After-index-work-way g)
-    → Largest (g.S.Site.meaning c.args.self.now.site.now) (place_of c.args.self.now.request c.args.at) c.in-Some.way (get_or c.offer_way-in-Some.new.work.cells.now c.in-Some.way c.index-work-way.result).next
+    → Largest (g.S.Site.meaning c.args.self.now.site.now) (place_of c.args.self.now.request c.args.from.at) c.in-Some.way (get_or c.offer_way-in-Some.new.work.cells.now c.in-Some.way c.index-work-way.result).next
 link g c =
     let m = g.S.Site.meaning c.args.self.now.site.now in
     let inv = c.loop-after.invariant in
     let o = c.offer_way-in-Some in
-    let p = place_of c.args.self.now.request c.args.at in
+    let p = place_of c.args.self.now.request c.args.from.at in
     let way = c.in-Some.way in
     let rows = o.new.work.cells.now in
     let same = c.loop-n.invariant.1.many_cells in

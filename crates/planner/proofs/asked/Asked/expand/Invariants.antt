@@ -16,18 +16,18 @@ invariant-loop-n g l =
     Ready (g.S.Site.meaning l.self.site.now) l.self.request g.Q.PriorityQueue.many g.Q.PriorityQueue.ordered l.work
     × SameWork g.Q.PriorityQueue.many g.Q.PriorityQueue.lenders l.initial.work l.work
     × (settled_count (cells_of l.work.cells.now) ≡ settled_count (cells_of l.initial.work.cells.now))
-    × AtTurn (kind_of g.S.Charge.Charge) (g.S.Site.meaning l.self.site.now) l.self.request g.Q.PriorityQueue.waits l.work l.at l.here
-    × ((i : ℕ) → l.limit ≤ i → i < l.n → Offered (kind_of g.S.Charge.Charge) (g.S.Site.meaning l.self.site.now) l.self.request (done_in (cells_of l.work.cells.now)) (g.Q.PriorityQueue.waits l.work.queue.now) l.at l.here.charge i)
+    × AtTurn (kind_of g.S.Charge.Charge) (g.S.Site.meaning l.self.site.now) l.self.request g.Q.PriorityQueue.waits l.work l.from.at l.from.here
+    × ((i : ℕ) → l.limit ≤ i → i < l.n → Offered (kind_of g.S.Charge.Charge) (g.S.Site.meaning l.self.site.now) l.self.request (done_in (cells_of l.work.cells.now)) (g.Q.PriorityQueue.waits l.work.queue.now) l.from.at l.from.here.charge i)
 
 abbrev pub invariant-loop-after : goal.invariant-loop-after
 invariant-loop-after g l =
     Ready (g.S.Site.meaning l.self.site.now) l.self.request g.Q.PriorityQueue.many g.Q.PriorityQueue.ordered l.work
     × SameWork g.Q.PriorityQueue.many g.Q.PriorityQueue.lenders l.initial.work l.work
     × (settled_count (cells_of l.work.cells.now) ≡ settled_count (cells_of l.initial.work.cells.now))
-    × AtTurn (kind_of g.S.Charge.Charge) (g.S.Site.meaning l.self.site.now) l.self.request g.Q.PriorityQueue.waits l.work l.at l.here
-    × ((i : ℕ) → left_of l.after ≤ i → i < l.ways → Offered (kind_of g.S.Charge.Charge) (g.S.Site.meaning l.self.site.now) l.self.request (done_in (cells_of l.work.cells.now)) (g.Q.PriorityQueue.waits l.work.queue.now) l.at l.here.charge i)
+    × AtTurn (kind_of g.S.Charge.Charge) (g.S.Site.meaning l.self.site.now) l.self.request g.Q.PriorityQueue.waits l.work l.from.at l.from.here
+    × ((i : ℕ) → left_of l.after ≤ i → i < l.ways → Offered (kind_of g.S.Charge.Charge) (g.S.Site.meaning l.self.site.now) l.self.request (done_in (cells_of l.work.cells.now)) (g.Q.PriorityQueue.waits l.work.queue.now) l.from.at l.from.here.charge i)
     × (left_of l.after ≤ l.limit)
-    × ((i : ℕ) → l.after ≡ Some i → Leaves (g.S.Site.meaning l.self.site.now) (place_of l.self.request l.at) i)
+    × ((i : ℕ) → l.after ≡ Some i → Leaves (g.S.Site.meaning l.self.site.now) (place_of l.self.request l.from.at) i)
 
 abbrev pub decreases-loop-after : goal.decreases-loop-after
 decreases-loop-after g l = left_of l.after

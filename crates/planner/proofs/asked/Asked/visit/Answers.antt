@@ -16,7 +16,7 @@ laws_of g =
     record { total = met.total; transitive = met.transitive; monotone = met.monotone; rising = met.rising }
 
 pub set_hint-requires : goal.set_hint-requires
-set_hint-requires g c = omega (arith, place_below c.args.self.now.request c.args.at, c.place_of-place.ensures, c.requires.inside)
+set_hint-requires g c = omega (arith, place_below c.args.self.now.request c.args.from.at, c.place_of-place.ensures, c.requires.inside)
 
 pub returns-then-dominated : goal.returns-then-dominated
 returns-then-dominated g c =
@@ -30,7 +30,7 @@ returns-then-dominated g c =
       same = untouched;
       count = refl;
       rest = record {
-        searching = skipped k laws m c.args.self.now.request (done_in rows) waits c.args.at c.args.here.charge c.requires.turn.expanding (c.if-dominated.ensures refl);
+        searching = skipped k laws m c.args.self.now.request (done_in rows) waits c.args.from.at c.args.from.here.charge c.requires.turn.expanding (c.if-dominated.ensures refl);
         books = c.requires.turn.books;
       };
     }
