@@ -10,7 +10,7 @@ use site::run::Request;
 use std::alloc::{AllocError, Global};
 use std::str::from_utf8;
 
-// The text of a call. (It is `format!` and no Display, since the contract names the bytes of the string that is made.)
+// The text of a call. (No Display of a call: that would have to stand where calls do, in job, which knows of no text.)
 pub fn text_of(heap: Global, call: Call) -> Result<String, AllocError>
     ensures { IfOk result (λ s. string_bytes s ≡ call_text call) }
 {

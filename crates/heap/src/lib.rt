@@ -31,7 +31,7 @@ impl Layout for Binary {
     }
 
     fn child(i: usize, len: usize) -> Option<usize> {
-        if i < len / 2 { Some(2 * i + 1) } else { None }
+        (i < len / 2).then(|| 2 * i + 1)
     }
 
     fn may_top<C: Charge>(a: &C, b: &C) -> bool {

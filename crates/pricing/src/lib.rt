@@ -1,5 +1,5 @@
 // Runs that were drawn by hand: whether one is lawful, and its total. (The site and the request are two arguments and no
-// struct: both public calls are made with the two in hand, and a struct of them would be made only to be taken apart.)
+// struct: who has a run priced has the two in hand, and a struct of them would be made only to be taken apart.)
 #![tactic(auto)]
 
 ghost use Rattle.std.specs.Prelude.{◌≡◌, true, MatchOption};

@@ -1,11 +1,12 @@
 -- A least run is an optimal path. It is feasible since it is lawful; it is so short that its value stays below the ceiling, so
 -- its total is its value; and each feasible path is a lawful run, whose total is at most its value.
-use Rattle.std.proofs.Common.{◌≡◌, ℕ, ◌+◌, ◌*◌, ◌<◌, ◌≤◌, min, true, List, length, take, Ok, Err, Result, sym, ap, ◌∙◌, inl, inr, mul-le-mul, arith}
+use Rattle.std.proofs.Common.{◌≡◌, ℕ, ◌+◌, ◌*◌, ◌<◌, ◌≤◌, min, true, List, length, take, Ok, Err, Result, sym, ap, ◌∙◌, subst, inl, inr, mul-le-mul, arith}
 use Rattle.std.proofs.lemmas.Bool.{leb-true}
 use Rattle.refusal.specs.declared.Refusal.{Refusal}
 use Rattle.charge.specs.declared.money.Money.{Money}
 use Rattle.charge.specs.Moneys.{of_cents, figure, money, money_within}
 use Rattle.survey.specs.declared.sealed.Sealed.{Sealed}
+use Rattle.survey.specs.Contents.{Contents}
 use Rattle.survey.specs.Sealing.{sealed_contents}
 use Rattle.site.specs.declared.run.Step.{Step}
 use Rattle.site.specs.declared.run.Request.{Request}
@@ -13,7 +14,8 @@ use Rattle.site.specs.Meaning.{Bounded}
 use Rattle.site.specs.Runs.{Least, NoneTwice}
 use Rattle.search.specs.Checks.{BoundStands}
 use Rattle.search.proofs.Stopping.{stopped_fails, stopped_other}
-use Rattle.search.specs.Lends.{Lent}
+use Rattle.search.specs.Lends.{Lent, lent}
+use Rattle.search.specs.declared.memory.Memory.{Memory}
 use Rattle.views.specs.SurveySite.{money_site}
 use Rattle.views.specs.Bounds.{sealed_bounded}
 use Rattle.planner.specs.declared.planned.Planned.{Planned}
@@ -77,3 +79,10 @@ module _ (s : Sealed) (q : Request) where
       let answer = o.answer in
       least_solved (take p.steps h'.run) p.total answer.0.bound_stands answer.1.least answer.1.once
   outcome_answers many h h' (Err e) o = refused_unsolved (many h.queue) h h' e o.answer
+
+-- the same of what a view shows, with the memory that is lent to the plan
+pub view_answers : {Q : Type 0} (s : Sealed) (q : Request) (many : Q → ℕ) (memory memory' : Memory Money Q) (r : Result (Planned Money) Refusal) (shown : Contents)
+    → shown ≡ sealed_contents s → Outcome money many (money_site shown) q (lent memory) (lent memory') r
+    → Answered (sealed_contents s) q (length memory.cells.now) (many memory.queue) (length memory.run.now) memory'.run.now r
+view_answers s q many memory memory' r shown same o =
+    outcome_answers s q many (lent memory) (lent memory') r (subst (λ (c : Contents). Outcome money many (money_site c) q (lent memory) (lent memory') r) same o)

@@ -32,6 +32,7 @@ fn plan_over<Q: PriorityQueue<Charge = Money>>(
 }
 
 // Plans a cheapest run over a sealed survey. The cell rows and the queue are working memory.
+#[tactic(auto, using(crate::proofs::Solving::view_answers))]
 pub fn plan_for_money<Q: PriorityQueue<Charge = Money>>(
     survey: &Sealed,
     request: Request,

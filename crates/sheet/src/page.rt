@@ -30,10 +30,8 @@ fn put_sheet(drawn: &Drawn<'_, MoneyView<'_>>, sum: Money, out: &mut [u8]) -> Re
     let first = run_line(drawn.request);
     let last = total_line(sum);
     let ends = first.len() + last.len();
-    if out.len() < ends {
-        return Err(Refusal::NoRoom);
-    }
-    drawn.length(out.len() - ends).ok_or(Refusal::NoRoom)?;
+    let room = out.len().checked_sub(ends).ok_or(Refusal::NoRoom)?;
+    drawn.length(room).ok_or(Refusal::NoRoom)?;
     let after_first = first.put_into(out, 0)?;
     let after_steps = drawn.put(out, after_first)?;
     last.put_into(out, after_steps)

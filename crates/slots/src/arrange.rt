@@ -81,12 +81,9 @@ impl<C: Charge, L: Layout> LentQueue<'_, C, L> {
         ensures order { InRowOrder L.Layout.up (ranked L.Layout.turned C.Charge.within) self.new }
         ensures answer { MatchOption result ((self.old.len ≡ 0) × (self.new ≡ self.old)) (λ p. (0 < self.old.len) × (self.new.len ≡ self.old.len - 1) × (p.0 < many_rows self.old) × Taken (ranked L.Layout.turned C.Charge.within) (what_waits self.old) (what_waits self.new) p.0 p.1) }
     {
-        if self.len == 0 {
-            return None;
-        }
+        let last = self.len.checked_sub(1)?;
         let cell = self.rows[0].cell;
         let charge = self.rows[cell].charge;
-        let last = self.len - 1;
         self.exchange(0, last);
         self.len = last;
         self.sift_down(0);

@@ -11,8 +11,8 @@ use refusal::Refusal;
 use std::marker::PhantomData;
 
 // A priority queue over lent rows, for every charge kind and every layout: the cells at the first `len` positions wait.
-// (That they are in the row order is no ghost field but a premise of the calls: it speaks of how the charge kind compares, and
-// the struct is for every `C`.)
+// (That they are in the row order is no ghost field but a premise of the calls, since it does not hold at all times: a climb and a
+// fall are methods too, and in the midst of them one cell stands too low or too high.)
 #[derive(Drop)]
 pub struct LentQueue<'a, C, L> {
     pub(crate) rows: &'a mut [Slot<C>],

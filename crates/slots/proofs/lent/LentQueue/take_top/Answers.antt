@@ -1,7 +1,7 @@
 -- the cell at the top and the last that waits are exchanged, and the one now at the top goes down
-use Rattle.std.proofs.Common.{◌<◌, length, get_or, ap, ◌∙◌, arith}
+use Rattle.std.proofs.Common.{◌≡◌, ℕ, ◌-◌, ◌<◌, length, get_or, ap, ◌∙◌, subst, arith}
 use lib.ListN.{length-map}
-use Rattle.slots.specs.Order.{ranked}
+use Rattle.slots.specs.Order.{Exchanged, SameWait, ranked}
 use Rattle.slots.specs.Rows.{cells, positions, charges}
 use Rattle.slots.proofs.Columns.{read, stands}
 use Rattle.slots.proofs.Ranks.{ranked_transitive, ranked_total, itself}
@@ -18,15 +18,16 @@ returns-clause-answer g c =
     let mid = c.exchange.new.self.rows.now in
     let last = c.sift_down.new.self.rows.now in
     let len = queue.len in
-    let some : 0 < len = omega arith in
+    let is : c.in_ok-last.last ≡ len - 1 = omega (arith, c.in_ok-last.ensures) in
+    let some : 0 < len = omega (arith, c.in_ok-last.ensures) in
     let first : 0 < length rows = omega (arith, queue.within) in
     let u = c.sift_down.ensures in
     let in_rows = stands rows 0 c.index-self-0.result queue.placed first in
     let top = read (λ s. s.cell) rows 0 c.index-self-0.result 0 first in
-    let p = top_taken g.L.Layout.up g.L.Layout.down g.met.L.Layout.tree rank (length rows) len (charges rows) (cells rows) (positions rows) (cells mid) (positions mid) c.requires some c.exchange.ensures.exchanged
-    (ranked_transitive within g.met.C.Charge.transitive turned) (itself rank (ranked_total within g.met.C.Charge.total turned)) _ (λ d. read (λ s. s.charge) rows _ c.index-self-cell.result d in_rows ∙ ap (λ m. get_or (charges rows) m d) top) (length-map rows (λ s. s.charge)) (positions last) u.same in (
+    let p = top_taken g.L.Layout.up g.L.Layout.down g.met.L.Layout.tree rank (length rows) len (charges rows) (cells rows) (positions rows) (cells mid) (positions mid) c.requires some (subst (λ (j : ℕ). Exchanged (cells rows) (positions rows) (cells mid) (positions mid) 0 j) is c.exchange.ensures.exchanged)
+    (ranked_transitive within g.met.C.Charge.transitive turned) (itself rank (ranked_total within g.met.C.Charge.total turned)) _ (λ d. read (λ s. s.charge) rows _ c.index-self-cell.result d in_rows ∙ ap (λ m. get_or (charges rows) m d) top) (length-map rows (λ s. s.charge)) (positions last) (subst (λ (j : ℕ). SameWait j (positions mid) (positions last)) is u.same) in (
       some,
-      u.rearranged.len,
+      u.rearranged.len ∙ is,
       in_rows,
-      rw (u.rearranged.len, u.rearranged.kept ∙ c.exchange.ensures.rearranged.kept) (rw (← top) at p),
+      rw (u.rearranged.len, is, u.rearranged.kept ∙ c.exchange.ensures.rearranged.kept) (rw (← top) at p),
     )
