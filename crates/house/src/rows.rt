@@ -9,7 +9,7 @@ use owned_rows::{Counts, Filling, OwnedRows};
 use refusal::Refusal;
 use views::money::MoneyView;
 
-// A plan within 35 with so many rows of each sort.
+// A plan within 35 with so many rows of each sort. (Three numbers, so that a case is a line.)
 fn with_rows(
     cases: &mut Cases,
     cells: usize,

@@ -19,7 +19,8 @@ pub fn check_request(places: usize, request: Request) -> Result<(), Refusal>
 }
 
 // How many rows of each sort a search for the request needs, or the first cause that speaks against it, where `cells`,
-// `many` and `steps` are the numbers of the cell rows, queue rows and run rows that are lent.
+// `many` and `steps` are the numbers of the cell rows, queue rows and run rows that are lent. (Three numbers, as the definition of
+// the causes has them; who lends has the rows, and no struct of their numbers.)
 pub fn rows_needed<S: Site>(
     site: &S,
     request: Request,

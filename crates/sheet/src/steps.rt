@@ -71,7 +71,8 @@ impl<S: Site> Drawn<'_, S> {
         Some(length)
     }
 
-    // The lines of all steps, into the bytes from a place on.
+    // The lines of all steps, into the bytes from a place on. (It goes over the steps as `length` does: one adds up lengths and stops
+    // where there is no room, the other writes, and what they share is the step's line, which `arrive` makes.)
     pub(crate) fn put(&self, out: &mut [u8], start: usize) -> Result<usize, Refusal>
         requires lawful { Run (S.Site.meaning self.now.site.now) self.now.request self.now.steps.now }
         requires room { start + length (step_lines (S.Site.meaning self.now.site.now) 0 self.now.steps.now) ≤ length out.old }
