@@ -22,7 +22,7 @@ fn request(start: usize, end: usize, bound: usize) -> Request {
     Request { start, end, bound }
 }
 
-// Tells what the sheet call answers, with so many bytes.
+// Tells what the sheet call answers, with so many bytes. (They are lent, since `sheet` takes no memory; how many there are is the case.)
 fn tell(
     rt: &HostRuntime,
     name: &str,
