@@ -6,27 +6,11 @@
 #![tactic(auto)]
 
 use calls::script::{Script, read_script};
-use input::print_fault;
+use input::survey_in;
 use std::{env, fs};
-use survey::draft::Draft;
-use survey::sealed::Sealed;
-use survey_file::reader::FileReader;
 
 mod print;
 mod work;
-
-// The survey of a file, or none where the file is refused, and then the refusal is printed.
-fn read_survey(rt: &HostRuntime, file: &[u8]) -> anyhow::Result<Option<Sealed>> {
-    let mut reader = FileReader::new(rt.alloc())?;
-    let mut draft = Draft::new(rt.alloc())?;
-    match reader.read(file, &mut draft) {
-        Ok(_) => Ok(Some(draft.seal())),
-        Err(fault) => {
-            print_fault(rt, fault)?;
-            Ok(None)
-        }
-    }
-}
 
 // The script of a text, or none where it cannot be read, and then the cause is printed.
 fn read_calls(rt: &HostRuntime, text: &str) -> anyhow::Result<Option<Script>> {
@@ -45,7 +29,7 @@ fn run(rt: &HostRuntime) -> anyhow::Result<()> {
     if let (Some(survey_name), Some(calls_name)) = (args.next(), args.next()) {
         let file = fs::read(rt, survey_name.as_str())?;
         let text = fs::read_to_string(rt, calls_name.as_str())?;
-        if let Some(survey) = read_survey(rt, file.as_slice())? {
+        if let Some(survey) = survey_in(rt, file.as_slice())? {
             if let Some(script) = read_calls(rt, text.as_str())? {
                 work::try_script(rt, &survey, script)?;
             }

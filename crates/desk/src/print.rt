@@ -5,30 +5,41 @@ use job::list::{Answer, Call, Entry};
 use planner::planned::Planned;
 use refusal::Refusal;
 use site::run::{Request, Step};
-use std::io;
+use std::{fmt, io};
 use survey::sealed::Sealed;
 
-// What was done: a way was closed or reopened.
-fn done(rt: &HostRuntime, call: Call) -> io::Result<()> {
-    match call {
-        Call::Close(_) => println!(rt; "CLOSED"),
-        Call::Reopen(_) => println!(rt; "REOPENED"),
-        Call::Plan(_) => println!(rt; "PLANNED"),
+// What one listed call gave, as it is printed.
+#[derive(Clone, Copy)]
+struct Shown<'a>(&'a Entry<Money>);
+
+impl fmt::Display for Shown<'_> {
+    fn fmt<W: fmt::Write>(&self, f: &mut fmt::Formatter<W>) -> fmt::Result {
+        match self.0.answer {
+            Answer::Untried => f.write_str("UNTRIED"),
+            Answer::Done => f.write_str(done(self.0.call)),
+            Answer::Refused(refusal) => write!(f, "REFUSED {refusal}"),
+            Answer::Found(planned) => {
+                let steps = planned.steps;
+                let total = planned.total.counted();
+                write!(f, "PLANNED {steps} STEPS TOTAL {total}")
+            }
+        }
     }
 }
 
-// What one listed call gave.
-pub fn answer(rt: &HostRuntime, entry: &Entry<Money>) -> anyhow::Result<()> {
-    match entry.answer {
-        Answer::Untried => Ok(println!(rt; "UNTRIED")?),
-        Answer::Done => Ok(done(rt, entry.call)?),
-        Answer::Refused(refusal) => print_refusal(rt, refusal),
-        Answer::Found(planned) => {
-            let steps = planned.steps;
-            let total = planned.total.counted();
-            Ok(println!(rt; "PLANNED {steps} STEPS TOTAL {total}")?)
-        }
+// What was done: a way was closed or reopened.
+fn done(call: Call) -> &'static str {
+    match call {
+        Call::Close(_) => "CLOSED",
+        Call::Reopen(_) => "REOPENED",
+        Call::Plan(_) => "PLANNED",
     }
+}
+
+// Prints what one listed call gave.
+pub fn answer(rt: &HostRuntime, entry: &Entry<Money>) -> io::Result<()> {
+    let shown = Shown(entry);
+    println!(rt; "{shown}")
 }
 
 // The plan of the last line: its sheet, or why there is none. A line of a sheet has less than 128 bytes.

@@ -11,7 +11,8 @@ use site::run::Request;
 use site::site::Site;
 use slots::layout::Leave;
 
-// Plans with the queue of a layout.
+// Plans with the queue of a layout. (This and the next are one and two calls of `plan` over what is lent. Both stand: this shows a plan
+// with a queue that is lent anew, over rows that hold anything, and the next a plan on rows and a queue that a plan has left.)
 pub fn with_queue<S: Site, L: Leave>(
     site: &S,
     request: Request,

@@ -1,4 +1,5 @@
-// What the programs share: a request in six bytes, standard input up to a number of bytes, and sheets and refusals in print.
+// What the programs share: a request in six bytes, standard input up to a number of bytes, a survey file, and sheets and refusals in
+// print.
 #![tactic(auto)]
 
 ghost use Rattle.std.specs.Prelude.{◌≡◌, ◌≤◌, length, IfOk, OnOk};
@@ -10,7 +11,12 @@ use sheet::refused::{fault_line, refusal_line};
 use site::run::{Request, Step};
 use std::io;
 use std::io::{Read, Write};
+use survey::draft::Draft;
 use survey::sealed::Sealed;
+use survey_file::reader::FileReader;
+
+// How long a sheet may be.
+pub const PAGE: usize = 65536;
 
 // A request is a start, an end and a bound, of two bytes each, high byte first. Under six bytes it is cut short.
 pub fn request_in(bytes: &[u8]) -> Result<Request, Fault>
@@ -73,6 +79,19 @@ pub fn print_refusal(rt: &HostRuntime, refusal: Refusal) -> anyhow::Result<()> {
     }
 }
 
+// The survey of a file, or none where the file is refused, and then the line of the fault is printed.
+pub fn survey_in(rt: &HostRuntime, file: &[u8]) -> anyhow::Result<Option<Sealed>> {
+    let mut reader = FileReader::new(rt.alloc())?;
+    let mut draft = Draft::new(rt.alloc())?;
+    match reader.read(file, &mut draft) {
+        Ok(()) => Ok(Some(draft.seal())),
+        Err(fault) => {
+            print_fault(rt, fault)?;
+            Ok(None)
+        }
+    }
+}
+
 // Prints the sheet of the steps over a survey, which may have so many bytes, or why there is none. (The page is lent to `sheet`, which
 // takes no memory of its own: so the bytes are here, and how many of them were written is its answer.)
 pub fn print_sheet(
@@ -93,7 +112,6 @@ pub fn print_sheet(
 mod tests {
     use super::*;
     use std::test::Fail;
-    use survey::draft::Draft;
 
     // There is memory for a page, and a page that is too short is no error. (A test cannot read what it prints: the bytes are
     // compared where the programs are run.)
@@ -110,6 +128,17 @@ mod tests {
         for most in [0, 512] {
             assert!(rt; print_sheet(&rt, &survey, request, &[], most).is_ok());
         }
+        Ok(())
+    }
+
+    // There is memory for a survey: a file of one place is read, and one without bytes is refused and its fault printed.
+    #[test]
+    fn a_survey_is_read(rt: HostRuntime) -> Result<(), Fail> {
+        let file = [1, 0, 2, 0, 1, 2, 0, 0, 4, 0, 0];
+        let read = survey_in(&rt, &file);
+        assert!(rt; matches!(read, Ok(Some(_))));
+        let refused = survey_in(&rt, &[]);
+        assert!(rt; matches!(refused, Ok(None)));
         Ok(())
     }
 }

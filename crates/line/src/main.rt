@@ -3,22 +3,17 @@
 #![tactic(auto)]
 
 use heap::Binary;
-use input::{print_fault, print_refusal, print_sheet, read_input, request_in};
+use input::{PAGE, print_fault, print_refusal, print_sheet, read_input, request_in, survey_in};
 use owned_rows::OwnedRows;
 use relays::plan_for_money;
 use site::run::Request;
-use survey::draft::Draft;
 use survey::sealed::Sealed;
-use survey_file::reader::FileReader;
 
 // The most bytes that are read: six for the request, and then the survey file.
 const MOST: usize = 17206;
 
 // How many rows of each sort there are.
 const ROWS: usize = 3904;
-
-// How long a sheet may be.
-const PAGE: usize = 65536;
 
 // Plans the least run for money over a survey, and prints it.
 fn plan_survey(rt: &HostRuntime, survey: &Sealed, request: Request) -> anyhow::Result<()> {
@@ -32,14 +27,13 @@ fn plan_survey(rt: &HostRuntime, survey: &Sealed, request: Request) -> anyhow::R
 
 // What a request and a survey file come to.
 fn answer(rt: &HostRuntime, request: Request, file: &[u8]) -> anyhow::Result<()> {
-    let mut reader = FileReader::new(rt.alloc())?;
-    let mut draft = Draft::new(rt.alloc())?;
-    match reader.read(file, &mut draft) {
-        Ok(()) => plan_survey(rt, &draft.seal(), request),
-        Err(fault) => print_fault(rt, fault),
+    match survey_in(rt, file)? {
+        Some(survey) => plan_survey(rt, &survey, request),
+        None => Ok(()),
     }
 }
 
+// (The input stands in a buffer with a count beside it: the buffer bounds what is read, as is told at `read_input`.)
 fn main(rt: HostRuntime) -> anyhow::Result<()> {
     let mut input = vec![in rt.alloc(); 0u8; MOST]?;
     let count = read_input(&rt, &mut input)?;

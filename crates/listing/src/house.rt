@@ -17,25 +17,19 @@ fn repeater(random: &mut Random) -> Option<u32> {
     match random.below(6) {
         0 | 1 => None,
         2 => Some(0),
-        _ => Some((random.below(9) * 100) as u32),
+        _ => u32::try_from(random.below(9) * 100).ok(),
     }
 }
 
 // A way between two of the places, which may be refused where they are the same.
 fn way(random: &mut Random, places: u64) -> WayEntry {
-    let from = random.below(places) % 65536;
-    let to = random.below(places) % 65536;
-    let letter = if random.below(2) == 0 { 'S' } else { 'F' };
-    let metres = random.below(5);
-    let price = random.below(10) * 100;
-    let grade = random.below(10);
     WayEntry {
-        from: from as u16,
-        to: to as u16,
-        letter,
-        grade: grade as u8,
-        metres: metres as u16,
-        price: price as u32,
+        from: u16::try_from(random.below(places)).unwrap_or(0),
+        to: u16::try_from(random.below(places)).unwrap_or(0),
+        letter: if random.below(2) == 0 { 'S' } else { 'F' },
+        metres: u16::try_from(random.below(5)).unwrap_or(0),
+        price: u32::try_from(random.below(10) * 100).unwrap_or(0),
+        grade: u8::try_from(random.below(10)).unwrap_or(0),
     }
 }
 

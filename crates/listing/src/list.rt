@@ -26,70 +26,78 @@ fn lower(old: Option<u64>, new: u64) -> Option<u64> {
     Some(old.map_or(new, |best| best.min(new)))
 }
 
-// The price of a repeater where one may be marked.
-fn mark_price(survey: &Sealed, asked: &Question, place: usize) -> Option<u64> {
-    if place == asked.request.start || place == asked.request.end {
-        return None;
-    }
-    let price = survey.place(place)?.repeater?;
-    Some(price as u64)
+// A survey, and what is asked of it.
+#[derive(Clone, Copy)]
+struct Listing<'a> {
+    survey: &'a Sealed,
+    asked: &'a Question,
 }
 
-// Where a way leads from where the run stands, without a mark.
-fn over(asked: &Question, here: Here, number: usize, way: &WayEntry) -> Option<Here> {
-    let per_hundred = match way.letter {
-        'U' => 220,
-        'S' => 90,
-        _ => 4,
-    };
-    let loss = here
-        .loss
-        .saturating_add((way.metres as usize * per_hundred).div_ceil(100));
-    let goes = way.from as usize == here.place && loss <= asked.request.bound;
-    if !goes || asked.closed.contains(&number) {
-        return None;
+impl Listing<'_> {
+    // The price of a repeater where one may be marked.
+    fn mark_price(&self, place: usize) -> Option<u64> {
+        if place == self.asked.request.start || place == self.asked.request.end {
+            return None;
+        }
+        let price = self.survey.place(place)?.repeater?;
+        Some(price as u64)
     }
-    Some(Here {
-        place: way.to as usize,
-        loss,
-        cents: here.cents.saturating_add(way.price as u64),
-        grade: here.grade.max(way.grade as u64),
-    })
-}
 
-// Lists the runs that go on from here, in at most `depth` steps; `left` has the places, each with its loss, that the run has
-// left so far.
-fn walk(
-    survey: &Sealed,
-    asked: &Question,
-    here: Here,
-    depth: usize,
-    left: &mut BTreeSet<(usize, usize)>,
-    found: &mut Found,
-) -> Result<(), AllocError> {
-    if here.place == asked.request.end {
-        found.runs = found.runs.saturating_add(1);
-        found.money = lower(found.money, here.cents);
-        found.grade = lower(found.grade, here.grade);
+    // Where a way leads from where the run stands, without a mark.
+    fn over(&self, here: Here, number: usize, way: &WayEntry) -> Option<Here> {
+        let per_hundred = match way.letter {
+            'U' => 220,
+            'S' => 90,
+            _ => 4,
+        };
+        let loss = here
+            .loss
+            .saturating_add((way.metres as usize * per_hundred).div_ceil(100));
+        let goes = way.from as usize == here.place && loss <= self.asked.request.bound;
+        if !goes || self.asked.closed.contains(&number) {
+            return None;
+        }
+        Some(Here {
+            place: way.to as usize,
+            loss,
+            cents: here.cents.saturating_add(way.price as u64),
+            grade: here.grade.max(way.grade as u64),
+        })
     }
-    if depth == 0 || !left.insert((here.place, here.loss))? {
-        return Ok(());
-    }
-    for (number, way) in survey.all_ways().iter().enumerate() {
-        if let Some(there) = over(asked, here, number, way) {
-            walk(survey, asked, there, depth - 1, left, found)?;
-            if let Some(price) = mark_price(survey, asked, there.place) {
-                let cleared = Here {
-                    loss: 0,
-                    cents: there.cents.saturating_add(price),
-                    ..there
-                };
-                walk(survey, asked, cleared, depth - 1, left, found)?;
+
+    // Lists the runs that go on from here, in at most `depth` steps; `left` has the places, each with its loss, that the run has
+    // left so far.
+    fn walk(
+        &self,
+        here: Here,
+        depth: usize,
+        left: &mut BTreeSet<(usize, usize)>,
+        found: &mut Found,
+    ) -> Result<(), AllocError> {
+        if here.place == self.asked.request.end {
+            found.runs = found.runs.saturating_add(1);
+            found.money = lower(found.money, here.cents);
+            found.grade = lower(found.grade, here.grade);
+        }
+        if depth == 0 || !left.insert((here.place, here.loss))? {
+            return Ok(());
+        }
+        for (number, way) in self.survey.all_ways().iter().enumerate() {
+            if let Some(there) = self.over(here, number, way) {
+                self.walk(there, depth - 1, left, found)?;
+                if let Some(price) = self.mark_price(there.place) {
+                    let cleared = Here {
+                        loss: 0,
+                        cents: there.cents.saturating_add(price),
+                        ..there
+                    };
+                    self.walk(cleared, depth - 1, left, found)?;
+                }
             }
         }
+        left.remove(&(here.place, here.loss));
+        Ok(())
     }
-    left.remove(&(here.place, here.loss));
-    Ok(())
 }
 
 // Lists the runs of a question. Where the start is no place there is none.
@@ -108,7 +116,7 @@ pub fn list_runs(heap: Global, survey: &Sealed, asked: &Question) -> Result<Foun
             cents: 0,
             grade: 0,
         };
-        walk(survey, asked, here, cells, &mut left, &mut found)?;
+        Listing { survey, asked }.walk(here, cells, &mut left, &mut found)?;
     }
     Ok(found)
 }

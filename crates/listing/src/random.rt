@@ -23,7 +23,6 @@ impl Random {
             .state
             .wrapping_mul(6364136223846793005)
             .wrapping_add(1442695040888963407);
-        let high = self.state / 8589934592;
-        if limit == 0 { 0 } else { high % limit }
+        (self.state >> 33).checked_rem(limit).unwrap_or(0)
     }
 }

@@ -4,18 +4,13 @@
 // their high byte first. Steps that are cut short are refused like a file cut short at its start.
 #![tactic(auto)]
 
-use input::{print_fault, print_sheet, read_input, request_in};
+use input::{PAGE, print_fault, print_sheet, read_input, request_in, survey_in};
 use refusal::{Fault, Refusal};
 use site::run::{Request, Step};
 use std::alloc::{AllocError, Global};
-use survey::draft::Draft;
-use survey_file::reader::FileReader;
 
 // The most bytes that are read: the request, 65,535 steps of three bytes with their number, and the longest survey file.
 const MOST: usize = 213773;
-
-// How long a sheet may be.
-const PAGE: usize = 65536;
 
 // What stands in the input: the request, the bytes of the steps, and the survey file.
 fn parts(input: &[u8]) -> Result<(Request, &[u8], &[u8]), Fault> {
@@ -46,12 +41,10 @@ fn read_steps(heap: Global, bytes: &[u8]) -> Result<Vec<Step>, AllocError> {
 
 // What a request, steps and a survey file come to.
 fn answer(rt: &HostRuntime, request: Request, steps: &[u8], file: &[u8]) -> anyhow::Result<()> {
-    let mut reader = FileReader::new(rt.alloc())?;
-    let mut draft = Draft::new(rt.alloc())?;
     let drawn = read_steps(rt.alloc(), steps)?;
-    match reader.read(file, &mut draft) {
-        Ok(()) => print_sheet(rt, &draft.seal(), request, &drawn, PAGE),
-        Err(fault) => print_fault(rt, fault),
+    match survey_in(rt, file)? {
+        Some(survey) => print_sheet(rt, &survey, request, &drawn, PAGE),
+        None => Ok(()),
     }
 }
 
@@ -62,6 +55,7 @@ fn run(rt: &HostRuntime, input: &[u8]) -> anyhow::Result<()> {
     }
 }
 
+// (The input stands in a buffer with a count beside it: the buffer bounds what is read, as is told at `read_input`.)
 fn main(rt: HostRuntime) -> anyhow::Result<()> {
     let mut input = vec![in rt.alloc(); 0u8; MOST]?;
     let count = read_input(&rt, &mut input)?;

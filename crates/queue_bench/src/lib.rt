@@ -8,7 +8,8 @@ use owned_rows::Filling;
 use queue::queue::PriorityQueue;
 use std::alloc::Global;
 
-// Each cell is put with its charge.
+// Each cell is put with its charge. (`ordered`, the row order, stands in these three contracts since it is a premise of a queue's calls,
+// which these functions hand on; who calls them knows it of the heap that was just laid over the rows.)
 fn put_all<Q: PriorityQueue<Charge = Money>>(queue: &mut Q, charges: &[u64])
     requires { Q.PriorityQueue.ordered queue.old }
     ensures { Q.PriorityQueue.ordered queue.new }
@@ -41,7 +42,8 @@ fn churn<Q: PriorityQueue<Charge = Money>>(queue: &mut Q, steps: &[u64], taken: 
     }
 }
 
-// Puts every charge, then takes them in order, on rows that hold whatever was there before. False where there is no memory for the rows, since C has no Result.
+// Puts every charge, then takes them in order, on rows that hold whatever was there before. False where there is no memory for the
+// rows, since C has no Result. (This and the next are two exported names for C, each a measurement of its own.)
 #[unsafe(no_mangle)]
 pub extern "C" fn heap_fill_and_drain(memory: Global, charges: &[u64], taken: &mut [u64]) -> bool {
     let Ok(mut rows) = vec![in memory; Filling::used().slot; charges.len()] else {
@@ -53,7 +55,8 @@ pub extern "C" fn heap_fill_and_drain(memory: Global, charges: &[u64], taken: &m
     true
 }
 
-// Puts every charge, then takes and puts again, once for each step. False where there is no memory for the rows, as above.
+// Puts every charge, then takes and puts again, once for each step that has room in `taken`. False where there is no memory for the
+// rows, as above.
 #[unsafe(no_mangle)]
 pub extern "C" fn heap_churn(
     memory: Global,
