@@ -2,7 +2,9 @@
 // print.
 #![tactic(auto)]
 
-ghost use Rattle.std.specs.Prelude.{◌≡◌, ◌≤◌, length, IfOk, OnOk};
+ghost use Rattle.std.specs.Prelude.{◌≡◌, ◌≤◌, length, Ok, IfOk, IsErr, OnOk, MatchOption};
+ghost use Rattle.survey.specs.Sealing.{sealed_contents};
+ghost use Rattle.survey_file.specs.Decode.{decode};
 ghost use Rattle.input.specs.Requests.{request_in};
 
 use refusal::{Fault, Refusal};
@@ -80,7 +82,9 @@ pub fn print_refusal(rt: &HostRuntime, refusal: Refusal) -> anyhow::Result<()> {
 }
 
 // The survey of a file, or none where the file is refused, and then the line of the fault is printed.
-pub fn survey_in(rt: &HostRuntime, file: &[u8]) -> anyhow::Result<Option<Sealed>> {
+pub fn survey_in(rt: &HostRuntime, file: &[u8]) -> anyhow::Result<Option<Sealed>>
+    ensures { IfOk result (λ o. MatchOption o (IsErr (decode file.now)) (λ s. decode file.now ≡ Ok (sealed_contents s))) }
+{
     let mut reader = FileReader::new(rt.alloc())?;
     let mut draft = Draft::new(rt.alloc())?;
     match reader.read(file, &mut draft) {
