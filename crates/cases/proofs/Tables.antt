@@ -11,7 +11,7 @@ use Rattle.survey.specs.Contents.{Contents}
 use Rattle.site.specs.declared.run.Step.{Step}
 use Rattle.site.specs.declared.run.Request.{Request}
 use Rattle.site.specs.Meaning.{SiteMeaning}
-use Rattle.site.specs.Runs.{total}
+use Rattle.site.specs.Runs.{total, Least}
 use Rattle.views.specs.SurveySite.{survey_site, money_site, disturbance_site, way_of}
 use Rattle.job.specs.Book.{empty_book, with_way}
 use Rattle.job.specs.Jobs.{shutting}
@@ -123,5 +123,5 @@ quiet =
     tt refl tt tt
 
 -- nothing is no more than any sum
-pub nowhere : Gives money (money_site house) (record { start = 0; end = 0; bound = 35 }) (of_cents 0)
-nowhere = record { run = []; least = record { lawful = refl; comes_to = refl; lowest = λ run lawful. le-leb _ _ zero-le } }
+pub nowhere : Least money (money_site house) (record { start = 0; end = 0; bound = 35 }) [] (of_cents 0)
+nowhere = record { lawful = refl; comes_to = refl; lowest = λ run lawful. le-leb _ _ zero-le }

@@ -1,6 +1,6 @@
 -- The worked cases of the house: what a least run comes to, or that no run is lawful. Stands on the house, on runs and
 -- their totals, on the sites that a survey is, and on the loss card.
-use Rattle.std.specs.Prelude.{◌≡◌, ℕ, true, List, length, Some, None, Ok}
+use Rattle.std.specs.Prelude.{◌≡◌, ℕ, true, List, [], length, Some, None, Ok}
 use Rattle.charge.specs.Kind.{Kind}
 use Rattle.charge.specs.Moneys.{money, of_cents}
 use Rattle.charge.specs.Grades.{disturbance, of_grade}
@@ -49,7 +49,7 @@ pub record WorkedCases : Type 0 where
   pub shut : Gives money (shutting (money_site house) (with_way empty_book 2 true)) (across 35) (of_cents 2600)
   -- for disturbance: two joined grades are the greater, and a repeater has grade 0
   pub quiet : Gives disturbance (disturbance_site house) (across 35) (of_grade 1)
-  -- from a place to itself
-  pub nowhere : Gives money (money_site house) (record { start = 0; end = 0; bound = 35 }) (of_cents 0)
+  -- from a place to itself no steps lead, for nothing
+  pub nowhere : Least money (money_site house) (record { start = 0; end = 0; bound = 35 }) [] (of_cents 0)
   -- 7 m of U (85) lose 15.4 tenths, which the card has as 16
   pub card : loss_of 85 7 ≡ Ok 16
