@@ -3,7 +3,7 @@ ghost use Rattle.std.specs.Prelude.{◌≡◌, ℕ, ◌<◌, ◌≤◌, ◌≢�
 ghost use Rattle.job.specs.declared.list.Call.TheVariants.{Plan};
 ghost use Rattle.job.specs.Replay.{calls_of};
 ghost use Rattle.std.specs.List.{AllByRecursion};
-ghost use Rattle.calls.specs.Covering.{Covers};
+ghost use Rattle.calls.specs.Covering.{Covers, larger, largest};
 ghost use Rattle.calls.specs.Texts.{TextOf, FirstLine};
 ghost use Rattle.calls.specs.Scripts.{AllUntried, NotPlan, EndTrouble, TroubleOf, ScriptOf, trouble_text};
 
@@ -133,6 +133,7 @@ fn larger_bound(bound: usize, call: Call) -> usize
     ensures low { result ≤ 1000 }
     ensures grows { bound ≤ result }
     ensures covers { Covers result call }
+    ensures value { result ≡ larger bound call }
 {
     match call {
         Call::Plan(request) if request.bound <= 1000 => bound.max(request.bound),
@@ -143,6 +144,7 @@ fn larger_bound(bound: usize, call: Call) -> usize
 impl Script {
     // The largest bound of the plans of the script, as far as it can be asked for: no plan needs more rows than one with it.
     pub fn largest_bound(&self) -> usize
+        ensures value { result ≡ largest 0 (Plan self.now.last ∷ calls_of self.now.entries.items) }
         ensures low { result ≤ 1000 }
         ensures last { Covers result (Plan self.now.last) }
         ensures listed { AllByRecursion (λ e. Covers result e.call) self.now.entries.items }
