@@ -9,8 +9,9 @@ use refusal::{Fault, Refusal};
 use site::run::{Request, Step};
 use std::alloc::{AllocError, Global};
 
-// The most bytes that are read: the request, 65,535 steps of three bytes with their number, and the longest survey file.
-const MOST: usize = 213773;
+// The most bytes that are read: the request, 65,535 steps of three bytes with their number, the longest survey file, and one byte
+// more, so that a byte behind such a file is met.
+const MOST: usize = 213774;
 
 // What stands in the input: the request, the bytes of the steps, and the survey file.
 fn parts(input: &[u8]) -> Result<(Request, &[u8], &[u8]), Fault> {
