@@ -68,6 +68,25 @@ pub count_most : {C : Type 0} (rows : List (Cell C)) → settled_count rows ≤ 
 count_most [] = omega arith
 count_most (r ∷ rs) = let h = count_most rs in let o = one_most r in omega arith
 
+-- a link survives where the settled rows stay, since it leads to one of them
+linked_still : {C : Type 0} (k : Kind C) (m : SiteMeaning C) (ask : Request) (rows rows' : List (Cell C)) → ((z : ℕ) (r : Reached C) → slice_get rows z ≡ Some (Settled r) → slice_get rows' z ≡ Some (Settled r))
+    → (z : ℕ) (r : Reached C) → Linked k m ask rows z r → Linked k m ask rows' z r
+linked_still k m ask rows rows' stays z r l = elim l [
+  | inl f ↦ inl f
+  | inr n ↦ inr (record {
+    by = n.by;
+    link = n.link;
+    before = n.before;
+    row = stays n.by.from n.before n.row;
+    over = n.over;
+    goes = n.goes;
+    place = n.place;
+    loss = n.loss;
+    charge = n.charge;
+    steps = n.steps;
+  })
+]
+
 -- since a waiting row is not settled, fewer rows are settled than there are
 pub count_short : {C : Type 0} (rows : List (Cell C)) (at : ℕ) (r : Reached C) → slice_get rows at ≡ Some (Waiting r) → settled_count rows < length rows
 count_short [] at r e = absurd (let z : ◌≡◌ {A = ℕ} 0 1 = cc in omega arith)
@@ -102,22 +121,8 @@ module _ {C : Type 0} (k : Kind C) (laws : Laws k) (m : SiteMeaning C) (ask : Re
     | inr p ↦ ap (λ rs. slice_get rs z) p.0 ∙ nth_set_other rows at z (Waiting new) (λ q. none_some p.1 (ap (done_in rows) (sym q) ∙ done_row rows z r e)) ∙ e
   ]
 
-  next_kept : (z : ℕ) (r : Reached C) → Next k m ask rows z r → Next k m ask rows' z r
-  next_kept z r n = record {
-    by = n.by;
-    link = n.link;
-    before = n.before;
-    row = offer_row n.by.from n.before n.row;
-    over = n.over;
-    goes = n.goes;
-    place = n.place;
-    loss = n.loss;
-    charge = n.charge;
-    steps = n.steps;
-  }
-
   linked_kept : (z : ℕ) (r : Reached C) → Linked k m ask rows z r → Linked k m ask rows' z r
-  linked_kept z r l = elim l [ inl f ↦ inl f | inr n ↦ inr (next_kept z r n) ]
+  linked_kept = linked_still k m ask rows rows' offer_row
 
   -- each cell reached after the offer was reached so before, or is the one offered
   was : (z : ℕ) (r : Reached C) → reached_in rows' z ≡ Some r → (reached_in rows z ≡ Some r) ⊎ ((z ≡ at) × (r ≡ new))
@@ -198,21 +203,7 @@ module _ {C : Type 0} (k : Kind C) (laws : Laws k) (m : SiteMeaning C) (ask : Re
   settled_row_stays z r e = other_row z (λ a. none_some fresh (ap (done_in rows) (sym a) ∙ done_row rows z r e)) ∙ e
 
   kept_linked : (z : ℕ) (r : Reached C) → Linked k m ask rows z r → Linked k m ask rows' z r
-  kept_linked z r l = elim l [
-    | inl f ↦ inl f
-    | inr n ↦ inr (record {
-      by = n.by;
-      link = n.link;
-      before = n.before;
-      row = settled_row_stays n.by.from n.before n.row;
-      over = n.over;
-      goes = n.goes;
-      place = n.place;
-      loss = n.loss;
-      charge = n.charge;
-      steps = n.steps;
-    })
-  ]
+  kept_linked = linked_still k m ask rows rows' settled_row_stays
 
   -- settling a cell changes nothing of how any cell was reached
   reached_same : (z : ℕ) → reached_in rows z ≡ reached_in rows' z
