@@ -8,6 +8,7 @@ use Rattle.site.specs.declared.run.Step.{Step}
 use Rattle.site.specs.declared.run.Request.{Request}
 use Rattle.site.specs.Meaning.{SiteMeaning, Bounded}
 use Rattle.site.specs.Runs.{loss_after, Lawful, Run, place_behind, loss_behind, Avoids, NoneTwice}
+use Rattle.search.proofs.Trails.{after_low}
 
 -- no number comes twice
 abbrev Distinct : List ℕ → Type 0
@@ -92,13 +93,9 @@ module _ {C : Type 0} (m : SiteMeaning C) (bounded : Bounded m) (q : Request) wh
       let lost : loss_after s.mark (l + w.loss) ≡ loss_behind (m.way s.way) s.mark l = sym (ap (λ o. loss_behind o s.mark l) goes.opens) in
       record {
         place = subst (λ (x : ℕ). x < m.places) goes.leaves (bounded.from_in s.way w goes.opens);
-        low = subst (λ (x : ℕ). x ≤ q.bound) lost (after s.mark goes.arrives);
+        low = subst (λ (x : ℕ). x ≤ q.bound) lost (after_low q s.mark _ _ goes.arrives refl);
         lawful = subst (λ (x : ℕ). Lawful m q (place_behind (m.way s.way)) x rest) lost (subst (λ (x : ℕ). Lawful m q x (loss_after s.mark (l + w.loss)) rest) there on);
       }
-    where
-      after : (mark : Bool) {n : ℕ} → n ≤ q.bound → loss_after mark n ≤ q.bound
-      after true h = omega arith
-      after false h = h
 
   left_length : (p l : ℕ) (run : List Step) → length (left p l run) ≡ length run
   left_length p l [] = refl

@@ -13,6 +13,7 @@ use Rattle.site.specs.declared.way.Way.{Way}
 use Rattle.site.specs.declared.run.Step.{Step}
 use Rattle.site.specs.declared.run.Request.{Request}
 use Rattle.site.specs.Runs.{Markable, MarkAllowed, loss_after, Lawful, Run}
+use Rattle.search.proofs.Trails.{after_low}
 use Rattle.views.specs.SurveySite.{money_site, way_of, open_way, repeater_of, priced_as, entry_loss}
 use Rattle.relays.specs.Problem.{Path, loss_at, arrival_at, loss, arrival, relays, extended, stretches, entered_at, RelayStands, Feasible}
 
@@ -103,17 +104,13 @@ module _ (c : Contents) (q : Request) where
       let to : w.to ≡ way.0.to = ap (λ v. v.to) way.2 in
       let arrives : w.to ≡ arrival c s = to ∙ sym (ap arrival_at way.1) in
       let lost : w.loss ≡ loss c s = ap (λ v. v.loss) way.2 ∙ sym (ap loss_at way.1) in
-      let low' : loss_after s.mark (l + w.loss) ≤ q.bound = after_low s.mark goes.arrives in
+      let low' : loss_after s.mark (l + w.loss) ≤ q.bound = after_low q s.mark _ _ goes.arrives refl in
       let ahead = lawful_ahead w.to (loss_after s.mark (l + w.loss)) rest low' on in
       record {
         path = (way.0, way.1, sym (ap (λ v. v.from) way.2) ∙ goes.leaves, subst (λ (x : ℕ). Path c x q.end rest) to ahead.path);
         relays_stand = relays_on s.mark (arrival c s) (relays c rest) (subst (λ (x : ℕ). MarkAllowed (money_site c) q s.mark x) arrives goes.marks) ahead.relays_stand;
         within_bound = within_step q.bound l (loss c s) s.mark (stretches c rest) (subst (λ (x : ℕ). l + x ≤ q.bound) lost goes.arrives) (subst (λ (x : ℕ). Within q.bound (loss_after s.mark (l + x)) (stretches c rest)) lost ahead.within_bound);
       }
-    where
-      after_low : (mark : Bool) {n : ℕ} → n ≤ q.bound → loss_after mark n ≤ q.bound
-      after_low true h = omega arith
-      after_low false h = h
 
   pub ahead_lawful : (p l : ℕ) (run : List Step) → Ahead p l run → Lawful (money_site c) q p l run
   ahead_lawful p l [] a = a.path

@@ -1,13 +1,14 @@
 -- The lines of a lawful run, one step at a time: what is left of the run leads on lawfully from some place, so the loss so
 -- far is within the bound, and its lines are what is left of the lines.
-use Rattle.std.proofs.Common.{◌≡◌, ℕ, ◌+◌, ◌<◌, ◌≤◌, Bool, true, false, List, [], ◌∷◌, ◌++◌, length, get_or, drop, Ok, sym, refl, ap, ◌∙◌, subst, arith}
+use Rattle.std.proofs.Common.{◌≡◌, ℕ, ◌+◌, ◌<◌, ◌≤◌, false, List, [], ◌∷◌, ◌++◌, length, get_or, drop, Ok, sym, refl, ap, ◌∙◌, subst, arith}
 use Rattle.std.proofs.lemmas.List.{drop_more, append_assoc, length-append}
 use Rattle.byte_slices.specs.Lay.{placed, over}
 use Rattle.byte_slices.proofs.Laid.{placed_ok, over_none, over_length, over_more}
 use Rattle.site.specs.declared.run.Step.{Step}
 use Rattle.site.specs.declared.run.Request.{Request}
 use Rattle.site.specs.Meaning.{SiteMeaning}
-use Rattle.site.specs.Runs.{Lawful, Run, loss_after, loss_behind}
+use Rattle.site.specs.Runs.{Lawful, Run, loss_behind}
+use Rattle.search.proofs.Trails.{after_low}
 use Rattle.sheet.specs.Sheet.{line_of, step_lines}
 
 module _ {C : Type 0} (m : SiteMeaning C) (q : Request) (steps : List Step) where
@@ -20,10 +21,6 @@ module _ {C : Type 0} (m : SiteMeaning C) (q : Request) (steps : List Step) wher
   pub on_way_start : Run m q steps → OnWay 0 steps
   on_way_start r = record { place = q.start; within = omega arith; lawful = r }
 
-  loss_within : (mark : Bool) (l b : ℕ) → l ≤ b → loss_after mark l ≤ b
-  loss_within true l b h = omega arith
-  loss_within false l b h = h
-
   -- a step further
   pub on_way : (loss : ℕ) (s : Step) (rest : List Step) → OnWay loss (s ∷ rest) → OnWay (loss_behind (m.way s.way) s.mark loss) rest
   on_way loss s rest o =
@@ -32,7 +29,7 @@ module _ {C : Type 0} (m : SiteMeaning C) (q : Request) (steps : List Step) wher
       let open_is = l.1.opens in
       record {
         place = w.to;
-        within = subst (λ x. loss_behind x s.mark loss ≤ q.bound) (sym open_is) (loss_within s.mark (loss + w.loss) q.bound l.1.arrives);
+        within = subst (λ x. loss_behind x s.mark loss ≤ q.bound) (sym open_is) (after_low q s.mark (loss + w.loss) _ l.1.arrives refl);
         lawful = subst (λ x. Lawful m q w.to (loss_behind x s.mark loss) rest) (sym open_is) l.2;
       }
 
