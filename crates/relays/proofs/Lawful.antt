@@ -7,7 +7,6 @@ use Rattle.std.proofs.lemmas.List.Sums.{sum_by-cons}
 use Rattle.charge.specs.declared.money.Money.{Money}
 use Rattle.charge.specs.Moneys.{of_cents}
 use Rattle.survey.specs.declared.entry.Place.{Place}
-use Rattle.survey.specs.declared.entry.WayEntry.{WayEntry}
 use Rattle.survey.specs.Contents.{Contents}
 use Rattle.site.specs.declared.way.Way.{Way}
 use Rattle.site.specs.declared.run.Step.{Step}
@@ -15,6 +14,7 @@ use Rattle.site.specs.declared.run.Request.{Request}
 use Rattle.site.specs.Runs.{Markable, MarkAllowed, loss_after, Lawful, Run}
 use Rattle.search.proofs.Trails.{after_low}
 use Rattle.views.specs.SurveySite.{money_site, way_of, open_way, repeater_of, priced_as, entry_loss}
+use Rattle.views.specs.Bounds.{entered}
 use Rattle.relays.specs.Problem.{Path, loss_at, arrival_at, loss, arrival, relays, extended, stretches, entered_at, RelayStands, Feasible}
 
 pub sum_front : (x : ℕ) (xs : List ℕ) → sum (x ∷ xs) ≡ x + sum xs
@@ -49,11 +49,6 @@ step_within bound l a false (x ∷ xs) h =
     let first = h.0 in
     let front = sum_front a x in
     (omega arith, (omega arith, h.1))
-
--- a way of the site is one that was entered
-pub entered_way : (o : Option WayEntry) (w : Way Money) → way_of (λ e. of_cents e.price) o ≡ Some w → (e : WayEntry) × (o ≡ Some e) × (w ≡ open_way e (of_cents e.price))
-entered_way None w h = let z : ◌≡◌ {A = ℕ} 0 1 = cc in absurd (omega arith)
-entered_way (Some e) w h = (e, refl, cc)
 
 -- a repeater of the site is one whose price was entered
 pub entered_relay : (o : Option Place) (r : Money) → repeater_of of_cents o ≡ Some r → (cents : ℕ) × (entered_at o ≡ Some cents) × (r ≡ of_cents cents)
@@ -100,7 +95,7 @@ module _ (c : Contents) (q : Request) where
   pub lawful_ahead : (p l : ℕ) (run : List Step) → l ≤ q.bound → Lawful (money_site c) q p l run → Ahead p l run
   lawful_ahead p l [] low here = record { path = here; relays_stand = tt; within_bound = (omega arith, tt) }
   lawful_ahead p l (s ∷ rest) low (w, goes, on) =
-      let way = entered_way (slice_get c.ways s.way) w goes.opens in
+      let way = entered (λ e. of_cents e.price) (slice_get c.ways s.way) w goes.opens in
       let to : w.to ≡ way.0.to = ap (λ v. v.to) way.2 in
       let arrives : w.to ≡ arrival c s = to ∙ sym (ap arrival_at way.1) in
       let lost : w.loss ≡ loss c s = ap (λ v. v.loss) way.2 ∙ sym (ap loss_at way.1) in

@@ -9,8 +9,9 @@ use Rattle.site.specs.declared.run.Step.{Step}
 use Rattle.site.specs.declared.run.Request.{Request}
 use Rattle.site.specs.Runs.{MarkAllowed, with_repeater, after_way, loss_after, Lawful, total_from}
 use Rattle.views.specs.SurveySite.{money_site}
+use Rattle.views.specs.Bounds.{entered}
 use Rattle.relays.specs.Problem.{arrival_at, price_at, price, arrival, relays, relay_cents, relay_price, value}
-use Rattle.relays.proofs.Lawful.{sum_front, entered_way, entered_relay}
+use Rattle.relays.proofs.Lawful.{sum_front, entered_relay}
 
 -- the cents n, or the ceiling where they are more
 abbrev pub capped : ℕ → Money
@@ -44,7 +45,7 @@ module _ (c : Contents) (q : Request) where
   pub total_capped : (p l a : ℕ) (run : List Step) → a ≤ 4000000000000000000 → Lawful (money_site c) q p l run → total_from money (money_site c) (of_cents a) run ≡ capped (a + value c run)
   total_capped p l a [] low here = ap of_cents (omega arith)
   total_capped p l a (s ∷ rest) low (w, goes, on) =
-      let way = entered_way (slice_get c.ways s.way) w goes.opens in
+      let way = entered (λ e. of_cents e.price) (slice_get c.ways s.way) w goes.opens in
       let e = way.0 in
       let arrives : w.to ≡ e.to = ap (λ v. v.to) way.2 in
       let here : arrival c s ≡ e.to = ap arrival_at way.1 in

@@ -14,7 +14,7 @@ use Rattle.card.specs.Card.{loss_of}
 use Rattle.views.specs.SurveySite.{survey_site, way_of, repeater_of, open_way, loss_found, entry_loss}
 
 -- an open way is one that was entered
-entered : {C : Type 0} (charge : WayEntry → C) (o : Option WayEntry) (w : Way C) → way_of charge o ≡ Some w → (e : WayEntry) × (o ≡ Some e) × (open_way e (charge e) ≡ w)
+pub entered : {C : Type 0} (charge : WayEntry → C) (o : Option WayEntry) (w : Way C) → way_of charge o ≡ Some w → (e : WayEntry) × (o ≡ Some e) × (w ≡ open_way e (charge e))
 entered charge None w h = let z : ◌≡◌ {A = ℕ} 0 1 = cc in absurd (omega arith)
 entered charge (Some e) w h = (e, refl, cc)
 
@@ -38,15 +38,15 @@ module _ {C : Type 0} (wayCharge : WayEntry → C) (repeaterCharge : ℕ → C) 
     from_in = λ n w h.
         let q = entered wayCharge (slice_get (sealed_contents s).ways n) w h in
         let ends = way_ends (length (sealed_contents s).places) q.0 (passed n q.0 q.1) in
-        subst (λ v. v.from < length (sealed_contents s).places) q.2 ends.0;
+        subst (λ v. v.from < length (sealed_contents s).places) (sym q.2) ends.0;
     to_in = λ n w h.
         let q = entered wayCharge (slice_get (sealed_contents s).ways n) w h in
         let ends = way_ends (length (sealed_contents s).places) q.0 (passed n q.0 q.1) in
-        subst (λ v. v.to < length (sealed_contents s).places) q.2 ends.1;
+        subst (λ v. v.to < length (sealed_contents s).places) (sym q.2) ends.1;
     loss_in = λ n w h.
         let q = entered wayCharge (slice_get (sealed_contents s).ways n) w h in
         let cable = way_loss (length (sealed_contents s).places) q.0 (passed n q.0 q.1) in
         let small = loss_small q.0.letter q.0.metres cable.0 cable.1 in
         let is = loss_is q.0 cable.0 cable.1 in
-        subst (λ v. v.loss ≤ 65535) q.2 (omega arith);
+        subst (λ v. v.loss ≤ 65535) (sym q.2) (omega arith);
   }
