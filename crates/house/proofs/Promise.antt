@@ -1,26 +1,20 @@
 -- What a plan promises is more than what is told of it here: a run that is handed out is a least one, and where a request is
 -- refused for want of a run, it was not stopped for another cause, so no run is lawful.
-use Rattle.std.proofs.Common.{◌≡◌, ℕ, take, Ok, Err, Result, inl, inr, arith}
+use Rattle.std.proofs.Common.{◌≡◌, ℕ, take, Ok, Err, Result, inl, inr}
 use Rattle.charge.specs.Kind.{Kind}
 use Rattle.refusal.specs.declared.Refusal.{Refusal}
 use Rattle.refusal.specs.declared.Refusal.TheVariants.{NoRun}
 use Rattle.site.specs.declared.run.Request.{Request}
 use Rattle.site.specs.Meaning.{SiteMeaning}
 use Rattle.search.specs.Lends.{Lent}
-use Rattle.search.specs.Checks.{Stopped}
+use Rattle.search.proofs.Stopping.{stopped_other}
 use Rattle.planner.specs.declared.planned.Planned.{Planned}
 use Rattle.planner.specs.Outcome.{NoLawful, Refused, Outcome}
 use Rattle.house.specs.Plans.{Answers}
 
--- a request is not stopped for want of a run
-stopped_else : (places : ℕ) (q : Request) (cells many steps : ℕ) (e : Refusal) → Stopped places q cells many steps e → e ≡ NoRun → ⊥
-stopped_else places q cells many steps e (inl s) n = let a = s.0 in let z : ◌≡◌ {A = ℕ} 0 1 = cc in omega arith
-stopped_else places q cells many steps e (inr (inl s)) n = let a = s.0 in let z : ◌≡◌ {A = ℕ} 0 1 = cc in omega arith
-stopped_else places q cells many steps e (inr (inr s)) n = let a = s.0 in let z : ◌≡◌ {A = ℕ} 0 1 = cc in omega arith
-
 module _ {C Q : Type 0} (k : Kind C) (many : Q → ℕ) (m : SiteMeaning C) (q : Request) (h h' : Lent C Q) where
   refused : (e : Refusal) → Refused m q (many h.queue) h h' e → e ≡ NoRun → NoLawful m q
-  refused e (inl s) n = absurd (stopped_else _ q _ _ _ e s.0 n)
+  refused e (inl s) n = absurd (stopped_other _ q _ _ _ e s.0 n)
   refused e (inr s) n = s.2
 
   pub answered : (r : Result (Planned C) Refusal) → Outcome k many m q h h' r → Answers k m q r
