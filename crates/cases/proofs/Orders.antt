@@ -1,17 +1,11 @@
--- Money and disturbance have the laws that the argument by a table rests on. By arithmetic on their figures.
-use Rattle.std.proofs.Common.{arith, le-leb, leb-true}
+-- Money and disturbance have the laws of a charge kind. By arithmetic on their figures.
+use Rattle.std.proofs.Common.{rules}
 use Rattle.charge.specs.Moneys.{money}
 use Rattle.charge.specs.Grades.{disturbance}
-use Rattle.cases.proofs.Potential.{Orderly}
+use Rattle.search.specs.Search.{Laws}
 
-pub money_orderly : Orderly money
-money_orderly = record {
-  transitive = λ a b c h1 h2. let x = leb-true _ _ h1 in let y = leb-true _ _ h2 in le-leb _ _ (omega arith);
-  monotone = λ a b c h. let x = leb-true _ _ h in le-leb _ _ (omega arith);
-}
+pub money_laws : Laws money
+money_laws = record { total = search rules; transitive = search rules; monotone = search rules; rising = search rules }
 
-pub disturbance_orderly : Orderly disturbance
-disturbance_orderly = record {
-  transitive = λ a b c h1 h2. let x = leb-true _ _ h1 in let y = leb-true _ _ h2 in le-leb _ _ (omega arith);
-  monotone = λ a b c h. let x = leb-true _ _ h in le-leb _ _ (omega arith);
-}
+pub disturbance_laws : Laws disturbance
+disturbance_laws = record { total = search rules; transitive = search rules; monotone = search rules; rising = search rules }

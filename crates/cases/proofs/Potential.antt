@@ -7,7 +7,9 @@ use Rattle.site.specs.declared.way.Way.{Way}
 use Rattle.site.specs.declared.run.Step.{Step}
 use Rattle.site.specs.declared.run.Request.{Request}
 use Rattle.site.specs.Meaning.{SiteMeaning}
-use Rattle.site.specs.Runs.{MarkAllowed, Goes, loss_after, Lawful, Run, with_repeater, after_way, total_from, Lowest, place_behind, loss_behind}
+use Rattle.site.specs.Runs.{MarkAllowed, Goes, loss_after, Lawful, Run, after_way, total_from, Lowest, place_behind, loss_behind}
+use Rattle.search.specs.Search.{Laws}
+use Rattle.search.proofs.Covers.{step_monotone}
 
 -- tests: both, and one that is asked only where another passes
 abbrev both : Bool → Bool → Bool
@@ -104,11 +106,6 @@ cell p l c = record { place = p; loss = l; low = c }
 abbrev is_there : {C : Type 0} → Option C → Bool
 is_there None = false
 is_there (Some c) = true
-
--- laws of a charge kind that the argument rests on
-pub record Orderly {C : Type 0} (k : Kind C) : Type 0 where
-  pub transitive : (a b c : C) → k.within a b ≡ true → k.within b c ≡ true → k.within a c ≡ true
-  pub monotone : (a b c : C) → k.within a b ≡ true → k.within (k.joined a c) (k.joined b c) ≡ true
 
 module _ {C : Type 0} (k : Kind C) (m : SiteMeaning C) (q : Request) where
   -- a mark may stand at a place
@@ -214,15 +211,7 @@ module _ {C : Type 0} (k : Kind C) (m : SiteMeaning C) (q : Request) where
       ]
       refl t
 
-  module _ (law : Orderly k) (past : (n : ℕ) → m.ways ≤ n → m.way n ≡ None) (cells : List (Cell C)) (ok : T (closed cells)) where
-    repeater_monotone : (a b : C) (o : Option C) → k.within a b ≡ true → k.within (with_repeater k a o) (with_repeater k b o) ≡ true
-    repeater_monotone a b None h = h
-    repeater_monotone a b (Some c) h = law.monotone a b c h
-
-    step_monotone : (a b : C) (mark : Bool) (w : Way C) → k.within a b ≡ true → k.within (after_way k m a mark (Some w)) (after_way k m b mark (Some w)) ≡ true
-    step_monotone a b false w h = law.monotone a b w.charge h
-    step_monotone a b true w h = repeater_monotone _ _ (m.repeater w.to) (law.monotone a b w.charge h)
-
+  module _ (laws : Laws k) (past : (n : ℕ) → m.ways ≤ n → m.way n ≡ None) (cells : List (Cell C)) (ok : T (closed cells)) where
     -- a higher sum is served by the same cell
     served_more : (p l : ℕ) (a b : C) → k.within a b ≡ true → T (served cells p l a) → T (served cells p l b)
     served_more p l a b h =
@@ -234,7 +223,7 @@ module _ {C : Type 0} (k : Kind C) (m : SiteMeaning C) (q : Request) where
         let low = is_true (k.within x.low a) (right_of (eqb x.loss l) (k.within x.low a) more) in
         together (eqb x.place p) (both (eqb x.loss l) (k.within x.low b)) at
         (together (eqb x.loss l) (k.within x.low b) lost
-        (passes (k.within x.low b) (law.transitive x.low a b low h))))
+        (passes (k.within x.low b) (laws.transitive x.low a b low h))))
         cells
 
     inside : (n : ℕ) (w : Way C) → m.way n ≡ Some w → n < m.ways
@@ -282,7 +271,7 @@ module _ {C : Type 0} (k : Kind C) (m : SiteMeaning C) (q : Request) where
         let bound = subst (λ n. n + w.loss ≤ q.bound) (sym f.2) goes.arrives in
         let to = led x s.mark w (goes.leaves ∙ sym f.1) bound (mark_passes s.mark w.to goes.marks) step in
         served_more w.to (loss_after s.mark (l + w.loss)) (after_way k m x.low s.mark (Some w)) (after_way k m sum s.mark (Some w))
-        (step_monotone x.low sum s.mark w f.3)
+        (step_monotone k laws m x.low sum s.mark (Some w) f.3)
         (subst (λ n. T (served cells w.to (loss_after s.mark (n + w.loss)) (after_way k m x.low s.mark (Some w)))) f.2 to)
 
     front : (Q : C → Type 0) → ((l : ℕ) (sum : C) → T (served cells q.end l sum) → Q sum)
@@ -303,7 +292,7 @@ module _ {C : Type 0} (k : Kind C) (m : SiteMeaning C) (q : Request) where
         (λ l sum t.
         let f = cell_of (λ x. asked (eqb x.place q.end) (k.within c x.low)) q.end l sum ends t in
         let low = answered (eqb f.0.place q.end) (k.within c f.0.low) (eq-eqb f.0.place q.end f.1) f.4 in
-        law.transitive c f.0.low sum (is_true (k.within c f.0.low) low) f.3)
+        laws.transitive c f.0.low sum (is_true (k.within c f.0.low) low) f.3)
         run q.start 0 k.free started lawful
 
     pub none_lawful : T (endless cells) → (run : List Step) → Run m q run → ⊥

@@ -12,13 +12,15 @@ use Rattle.site.specs.declared.run.Step.{Step}
 use Rattle.site.specs.declared.run.Request.{Request}
 use Rattle.site.specs.Meaning.{SiteMeaning}
 use Rattle.site.specs.Runs.{total, Least}
+use Rattle.search.specs.Search.{Laws}
 use Rattle.views.specs.SurveySite.{survey_site, money_site, disturbance_site, way_of}
 use Rattle.job.specs.Book.{empty_book, with_way}
 use Rattle.job.specs.Jobs.{shutting}
 use Rattle.cases.specs.House.{house, house_with, across}
-use Rattle.cases.specs.Cases.{Gives, NoneLawful, Costs}
-use Rattle.cases.proofs.Potential.{Cell, cell, Orderly, closed, ends_from, leads_on, leads_on_lawfully, none_lower, none_lawful}
-use Rattle.cases.proofs.Orders.{money_orderly, disturbance_orderly}
+use Rattle.planner.specs.Outcome.{NoLawful}
+use Rattle.cases.specs.Cases.{Gives, Costs}
+use Rattle.cases.proofs.Potential.{Cell, cell, closed, ends_from, leads_on, leads_on_lawfully, none_lower, none_lawful}
+use Rattle.cases.proofs.Orders.{money_laws, disturbance_laws}
 
 -- past the ways of a survey there is none, shut or not
 survey_past : {C : Type 0} (wayCharge : WayEntry → C) (repeaterCharge : ℕ → C) (c : Contents) (n : ℕ)
@@ -34,19 +36,19 @@ money_past : (c : Contents) (n : ℕ) → (money_site c).ways ≤ n → (money_s
 money_past = survey_past (λ w. of_cents w.price) of_cents
 
 -- a run that comes to c, and a closed table whose cells of the end have at least c
-given : {C : Type 0} (k : Kind C) (m : SiteMeaning C) (q : Request) (c : C) → Orderly k → ((n : ℕ) → m.ways ≤ n → m.way n ≡ None)
+given : {C : Type 0} (k : Kind C) (m : SiteMeaning C) (q : Request) (c : C) → Laws k → ((n : ℕ) → m.ways ≤ n → m.way n ≡ None)
     → (run : List Step) (cells : List (Cell C)) → T (leads_on k m q q.start 0 run) → c ≡ total k m run → T (closed k m q cells) → T (ends_from k m q c cells)
     → Gives k m q c
-given k m q c law past run cells leads comes shut ends = record {
+given k m q c laws past run cells leads comes shut ends = record {
   run = run;
-  least = record { lawful = leads_on_lawfully k m q run q.start 0 leads; comes_to = comes; lowest = none_lower k m q law past cells shut c ends };
+  least = record { lawful = leads_on_lawfully k m q run q.start 0 leads; comes_to = comes; lowest = none_lower k m q laws past cells shut c ends };
 }
 
 costs : (c : Contents) (bound cents : ℕ) (run : List Step) (cells : List (Cell Money))
     → T (leads_on money (money_site c) (across bound) 0 0 run) → of_cents cents ≡ total money (money_site c) run
     → T (closed money (money_site c) (across bound) cells) → T (ends_from money (money_site c) (across bound) (of_cents cents) cells)
     → Costs c bound cents
-costs c bound cents = given money (money_site c) (across bound) (of_cents cents) money_orderly (money_past c)
+costs c bound cents = given money (money_site c) (across bound) (of_cents cents) money_laws (money_past c)
 
 abbrev over : ℕ → Step
 over n = record { way = n; mark = false }
@@ -94,11 +96,11 @@ at_32 = costs house 32 2600 by_one near tt refl tt tt
 pub at_22 : Costs house 22 2600
 at_22 = costs house 22 2600 by_one near tt refl tt tt
 
-pub at_21 : NoneLawful (money_site house) (across 21)
-at_21 = none_lawful money (money_site house) (across 21) money_orderly (money_past house) (at 0 0 0 ∷ []) tt tt
+pub at_21 : NoLawful (money_site house) (across 21)
+at_21 = none_lawful money (money_site house) (across 21) money_laws (money_past house) (at 0 0 0 ∷ []) tt tt
 
-pub blank : NoneLawful (money_site (house_with None)) (across 32)
-blank = none_lawful money (money_site (house_with None)) (across 32) money_orderly (money_past (house_with None)) (at 0 0 0 ∷ at 1 22 300 ∷ []) tt tt
+pub blank : NoLawful (money_site (house_with None)) (across 32)
+blank = none_lawful money (money_site (house_with None)) (across 32) money_laws (money_past (house_with None)) (at 0 0 0 ∷ at 1 22 300 ∷ []) tt tt
 
 pub free : Costs (house_with (Some 0)) 35 600
 free =
@@ -108,7 +110,7 @@ free =
 
 pub shut : Gives money (shutting (money_site house) (with_way empty_book 2 true)) (across 35) (of_cents 2600)
 shut =
-    given money (shutting (money_site house) (with_way empty_book 2 true)) (across 35) (of_cents 2600) money_orderly
+    given money (shutting (money_site house) (with_way empty_book 2 true)) (across 35) (of_cents 2600) money_laws
     (shut_past (money_site house) (with_way empty_book 2 true) (money_past house)) by_one
     (at 0 0 0 ∷ at 1 22 300 ∷ at 1 0 2300 ∷ at 3 22 2600 ∷ []) tt refl tt tt
 
@@ -117,7 +119,7 @@ loud p l grade = cell p l (of_grade grade)
 
 pub quiet : Gives disturbance (disturbance_site house) (across 35) (of_grade 1)
 quiet =
-    given disturbance (disturbance_site house) (across 35) (of_grade 1) disturbance_orderly
+    given disturbance (disturbance_site house) (across 35) (of_grade 1) disturbance_laws
     (survey_past (λ w. of_grade w.grade) (λ price. of_grade 0) house) by_one
     (loud 0 0 0 ∷ loud 1 22 1 ∷ loud 1 0 1 ∷ loud 3 22 1 ∷ loud 2 11 7 ∷ loud 2 33 7 ∷ loud 2 0 7 ∷ loud 1 11 7 ∷ loud 3 33 7 ∷ loud 2 22 7 ∷ loud 1 33 7 ∷ [])
     tt refl tt tt

@@ -10,8 +10,9 @@ use Rattle.survey.specs.Contents.{Contents}
 use Rattle.site.specs.declared.run.Step.{Step}
 use Rattle.site.specs.declared.run.Request.{Request}
 use Rattle.site.specs.Meaning.{SiteMeaning}
-use Rattle.site.specs.Runs.{Run, Least}
+use Rattle.site.specs.Runs.{Least}
 use Rattle.views.specs.SurveySite.{money_site, disturbance_site}
+use Rattle.planner.specs.Outcome.{NoLawful}
 use Rattle.job.specs.Book.{empty_book, with_way}
 use Rattle.job.specs.Jobs.{shutting}
 use Rattle.cases.specs.House.{house, house_with, across}
@@ -20,10 +21,6 @@ use Rattle.cases.specs.House.{house, house_with, across}
 pub record Gives {C : Type 0} (k : Kind C) (m : SiteMeaning C) (q : Request) (c : C) : Type 0 where
   pub run : List Step
   pub least : Least k m q run c
-
--- no list of steps is a lawful run
-abbrev pub NoneLawful : {C : Type 0} → SiteMeaning C → Request → Type 0
-NoneLawful m q = (run : List Step) → Run m q run → ⊥
 
 -- what a least run across a site for money comes to, in cents, under a bound
 abbrev pub Costs : Contents → ℕ → ℕ → Type 0
@@ -41,9 +38,9 @@ pub record WorkedCases : Type 0 where
   -- with one at 1
   pub at_32 : Costs house 32 2600
   pub at_22 : Costs house 22 2600
-  pub at_21 : NoneLawful (money_site house) (across 21)
+  pub at_21 : NoLawful (money_site house) (across 21)
   -- a blank is no repeater, and a price of 0 is one for nothing
-  pub blank : NoneLawful (money_site (house_with None)) (across 32)
+  pub blank : NoLawful (money_site (house_with None)) (across 32)
   pub free : Costs (house_with (Some 0)) 35 600
   -- with way 2 shut
   pub shut : Gives money (shutting (money_site house) (with_way empty_book 2 true)) (across 35) (of_cents 2600)
