@@ -1,4 +1,5 @@
--- A bound that covers calls: rows for it are rows enough for each of their plans. Stands on nothing but the calls.
+-- A bound that covers calls, so that rows for it are rows enough for each of their plans, and the largest bound of calls. Stands on
+-- nothing but the calls.
 use Rattle.std.specs.Prelude.{ℕ, ◌≤◌, cond, max, List, [], ◌∷◌, nat_lt}
 use Rattle.job.specs.declared.list.Call.{Call}
 use Rattle.job.specs.declared.list.Call.TheVariants.{Close, Reopen, Plan}

@@ -1,5 +1,5 @@
--- Which script a text is, and why a text is none: the first line that is the text of no call, or a last call that is no plan,
--- or no line at all. Stands on the texts of calls.
+-- Which script a text is, and why a text is none, also in words: the first line that is the text of no call, or a last call that is
+-- no plan, or no line at all. Stands on the texts of calls.
 use Rattle.std.specs.Prelude.{◌≡◌, ℕ, ◌+◌, List, [], ◌∷◌, ◌++◌, length, codes, decimal, vec_items}
 use Rattle.std.specs.List.{AllByRecursion}
 use Rattle.charge.specs.declared.money.Money.{Money}

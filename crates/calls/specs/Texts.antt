@@ -1,4 +1,5 @@
--- The text of a call on a job, as bytes. Stands on the calls and on decimal numbers.
+-- The text of a call on a job, as bytes; the text of a list of calls, a line to each; and the first line of a text. Stands on the
+-- calls and on decimal numbers.
 use Rattle.std.specs.Prelude.{◌≡◌, ℕ, ◌^◌, ◌<◌, ◌≢◌, ◌⊎◌, List, [], ◌∷◌, ◌++◌, length, decimal, slice_index}
 use Rattle.site.specs.declared.run.Request.{Request}
 use Rattle.job.specs.declared.list.Call.{Call}

@@ -1,5 +1,5 @@
 -- The worked cases of the house: what a least run comes to, or that no run is lawful. Stands on the house, on runs and
--- their totals, on the sites that a survey is, and on the loss card.
+-- their totals, on the sites that a survey and a job are, and on the loss card.
 use Rattle.std.specs.Prelude.{◌≡◌, ℕ, true, List, [], length, Some, None, Ok}
 use Rattle.charge.specs.Kind.{Kind}
 use Rattle.charge.specs.Moneys.{money, of_cents}

@@ -1,4 +1,4 @@
--- What a plan of the worked house is known to answer. Stands on runs and on the refusals.
+-- What the program knows of the answer of a plan, over any site. Stands on runs and on what a plan promises.
 use Rattle.std.specs.Prelude.{◌≡◌, List, Result, MatchResult}
 use Rattle.charge.specs.Kind.{Kind}
 use Rattle.refusal.specs.declared.Refusal.{Refusal}

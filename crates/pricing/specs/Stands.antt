@@ -1,4 +1,4 @@
--- A step from where a run stands to where it leads. Stands on runs.
+-- A step from where a run stands to where it leads, and where all steps of a run lead. Stands on runs.
 use Rattle.std.specs.Prelude.{◌≡◌, ◌+◌, List, Some}
 use Rattle.charge.specs.Kind.{Kind}
 use Rattle.site.specs.declared.way.Way.{Way}
@@ -8,6 +8,7 @@ use Rattle.site.specs.Meaning.{SiteMeaning}
 use Rattle.site.specs.Runs.{Goes, Run, loss_after, after_way, total}
 use Rattle.pricing.specs.declared.Stand.{Stand}
 
+-- the step s leads lawfully from one stand to the other
 pub record Gone {C : Type 0} (k : Kind C) (m : SiteMeaning C) (q : Request) (here : Stand C) (s : Step) (there : Stand C) : Type 0 where
   pub over : Way C
   pub goes : Goes m q here.place here.loss s over

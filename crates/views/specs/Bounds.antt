@@ -1,4 +1,5 @@
--- A sealed survey keeps the bounds of a site: what stands in it has passed the checks of the draft.
+-- A sealed survey keeps the bounds of a site: what stands in it has passed the checks of the draft. Stands on SurveySite and on
+-- what follows from those checks.
 use Rattle.std.specs.Prelude.{◌≡◌, ℕ, ◌<◌, ◌≤◌, true, length, is_ok, Some, None, Ok, Option, refl}
 use Rattle.std.proofs.Common.{sym, ap, subst, ◌∙◌, arith}
 use Rattle.std.specs.List.{slice_get}
