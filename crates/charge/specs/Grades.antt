@@ -1,4 +1,4 @@
--- Disturbance: a grade, of which joining takes the greater. A grade is a byte, so it holds no excess. Stands on nothing.
+-- Disturbance: a grade, of which joining takes the greater. A grade is a byte, so it holds no excess. Stands on Kind.
 use Rattle.std.specs.Prelude.{Bool, ℕ, max, leb}
 use Rattle.charge.specs.declared.disturbance.Disturbance.{Disturbance}
 use Rattle.charge.specs.Kind.{Kind}

@@ -1,4 +1,4 @@
--- Money: whole cents, where more than the ceiling means the ceiling. Stands on nothing.
+-- Money: whole cents, where more than the ceiling means the ceiling. Stands on Kind.
 use Rattle.std.specs.Prelude.{Bool, ℕ, ◌+◌, min, leb}
 use Rattle.charge.specs.declared.money.Money.{Money}
 use Rattle.charge.specs.Kind.{Kind}
