@@ -1,8 +1,9 @@
 -- Lists of calls: one more call at the end goes on from the book and from what the calls before it left; and the law of the plan
 -- made next follows from what a plan promises, since no call changes how many rows there are.
-use Rattle.std.proofs.Common.{◌≡◌, ℕ, zero, suc, ◌+◌, ◌<◌, Bool, List, [], ◌∷◌, ◌++◌, length, take, set, Some, Ok, Err, Result, sym, refl, ap, ◌∙◌, subst, inl, inr, add-one, take-suc-set}
+use Rattle.std.proofs.Common.{◌≡◌, ℕ, ◌+◌, ◌<◌, Bool, List, [], ◌∷◌, ◌++◌, length, take, set, Some, Ok, Err, Result, sym, refl, ap, ◌∙◌, subst, inl, inr, add-one, take-suc-set}
 use mathlib.Core.Path.{fun_ext}
-use Rattle.std.proofs.lemmas.List.{map-append}
+use Rattle.std.proofs.lemmas.List.{map-append, set-get_or}
+use Rattle.std.proofs.lemmas.Option.{get_or_from_slice_get}
 use Rattle.std.specs.List.{slice_get}
 use Rattle.charge.specs.Kind.{Kind}
 use Rattle.refusal.specs.declared.Refusal.{Refusal}
@@ -55,9 +56,7 @@ module _ {C Q : Type 0} (k : Kind C) (many : Q → ℕ) (m : SiteMeaning C) wher
 
 -- writing what stands there already changes nothing
 pub set_same : {X : Type 0} (xs : List X) (i : ℕ) (x : X) → slice_get xs i ≡ Some x → set xs i x ≡ xs
-set_same [] i x e = refl
-set_same (y ∷ ys) zero x e = let z : x ≡ y = cc in ap (λ v. v ∷ ys) z
-set_same (y ∷ ys) (suc i) x e = ap (λ v. y ∷ v) (set_same ys i x e)
+set_same xs i x e = ap (set xs i) (sym (get_or_from_slice_get xs i x x e)) ∙ set-get_or xs i x
 
 module _ {C Q : Type 0} (k : Kind C) (many : Q → ℕ) (m : SiteMeaning C) (calls : List Call) (q : Request) (before h' : Lent C Q) where
   -- the law, from the promise of the plan

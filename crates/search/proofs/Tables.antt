@@ -3,6 +3,9 @@
 use Rattle.std.proofs.Common.{◌≡◌, ℕ, zero, suc, ◌<◌, true, false, ◌≢◌, ◌⊎◌, List, [], ◌∷◌, ◌++◌, map, length, get_or, drop, replicate, set, Some, None, Option, sym, refl, ap, ◌∙◌, inl, inr, arith}
 use Rattle.std.specs.List.{slice_get}
 use Rattle.std.proofs.lemmas.Bool.{cases_eq, not-true, not-false}
+use Rattle.std.proofs.lemmas.Grind.{common_steps}
+use Rattle.std.proofs.lemmas.List.{get_or-map}
+use Rattle.std.proofs.lemmas.Option.{gets}
 use Rattle.site.specs.declared.run.Request.{Request}
 use Rattle.site.specs.Meaning.{SiteMeaning}
 use Rattle.charge.specs.Kind.{Kind}
@@ -21,16 +24,10 @@ use Rattle.search.specs.declared.cell.Reached.{Reached}
 use Rattle.search.proofs.Covers.{same}
 
 pub nth_set_other : {X : Type 0} (xs : List X) (i k : ℕ) (a : X) → k ≢ i → slice_get (set xs i a) k ≡ slice_get xs k
-nth_set_other [] i k a ne = refl
-nth_set_other (x ∷ xs) zero zero a ne = absurd (ne refl)
-nth_set_other (x ∷ xs) zero (suc k) a ne = refl
-nth_set_other (x ∷ xs) (suc i) zero a ne = refl
-nth_set_other (x ∷ xs) (suc i) (suc k) a ne = nth_set_other xs i k a (λ e. ne (ap suc e))
+nth_set_other xs i k a ne = grind (arith, common_steps, gets)
 
 pub nth_set_same : {X : Type 0} (xs : List X) (i : ℕ) (a : X) → i < length xs → slice_get (set xs i a) i ≡ Some a
-nth_set_same [] i a h = absurd (omega arith)
-nth_set_same (x ∷ xs) zero a h = refl
-nth_set_same (x ∷ xs) (suc i) a h = nth_set_same xs i a (omega arith)
+nth_set_same xs i a h = grind (arith, common_steps, gets)
 
 module _ {C : Type 0} (k : Kind C) (laws : Laws k) (rows : List (Cell C)) (waits waits' : ℕ → Option C) (at : ℕ) (old : Cell C) (new : Reached C)
     (inside : at < length rows) (row : slice_get rows at ≡ Some old) (agree : Agree rows waits) where
@@ -110,9 +107,7 @@ blank_heads C (suc n) (suc p) = blank_heads C n p
 
 -- an entry of a column is that field of the row
 pub nth_column : {A B : Type 0} (f : A → B) (rows : List A) (i : ℕ) (d : A) → i < length rows → slice_get (map f rows) i ≡ Some (f (get_or rows i d))
-nth_column f [] i d h = absurd (omega arith)
-nth_column f (s ∷ ss) zero d h = refl
-nth_column f (s ∷ ss) (suc i) d h = nth_column f ss i d (omega arith)
+nth_column f rows i d h = grind (arith, common_steps, gets)
 
 pub same_lenders : {C Q : Type 0} {lenders : Q → List GName} {a b c : Memory C Q} → SameLenders lenders a b → SameLenders lenders b c → SameLenders lenders a c
 same_lenders p q = record { cells = q.cells ∙ p.cells; queue = q.queue ∙ p.queue; run = q.run ∙ p.run; many_cells = q.many_cells ∙ p.many_cells; many_steps = q.many_steps ∙ p.many_steps }
@@ -121,9 +116,7 @@ pub room_kept : {C : Type 0} (m : SiteMeaning C) (ask : Request) (n n' many many
 room_kept m ask n n' many many' p q r = record { bound = r.bound; fits = omega (arith, r.fits); rows_suffice = omega (arith, r.rows_suffice); queue_suffices = omega (arith, r.queue_suffices) }
 
 pub read_column : {A B : Type 0} (f : A → B) (rows : List A) (i : ℕ) (d : A) (e : B) → i < length rows → f (get_or rows i d) ≡ get_or (map f rows) i e
-read_column f [] i d e h = absurd (omega arith)
-read_column f (s ∷ ss) zero d e h = refl
-read_column f (s ∷ ss) (suc i) d e h = read_column f ss i d e (omega arith)
+read_column f rows i d e h = sym (get_or-map f rows i d e h)
 
 pub indexed_kept : {C : Type 0} (m : SiteMeaning C) (rows rows' : List (Row C)) (n n' : ℕ) → n ≡ n' → SameIndex rows rows' → Indexed m (heads_of rows) (nexts_of rows) n → Indexed m (heads_of rows') (nexts_of rows') n'
 indexed_kept m rows rows' n n' e s ix = rw (s.heads, s.nexts, ← e) ix
