@@ -1,18 +1,15 @@
 -- What waits after a change of positions: a cell is put, or taken, where it alone changes sides of the length.
-use Rattle.std.proofs.Common.{◌≡◌, ℕ, zero, suc, ◌<◌, ◌≤◌, Bool, true, false, cond, ltb, ◌≢◌, List, [], ◌∷◌, length, get_or, set, Some, None, Option, sym, refl, ap, ◌∙◌, inl, inr, arith, length-set, get_or-set_same, ltb-true}
+use Rattle.std.proofs.Common.{◌≡◌, ℕ, ◌<◌, ◌≤◌, Bool, true, false, cond, ltb, ◌≢◌, List, length, get_or, set, Some, None, Option, sym, refl, ap, ◌∙◌, inl, inr, arith, length-set, get_or-set_same, ltb-true}
 use Rattle.std.specs.List.{slice_get}
 use Rattle.std.proofs.lemmas.Bool.{cases_Bool, cases_lt}
-use Rattle.std.proofs.lemmas.Option.{slice_get-get_or, slice_get_past}
+use Rattle.std.proofs.lemmas.Grind.{common_steps}
+use Rattle.std.proofs.lemmas.Option.{gets, slice_get-get_or, slice_get_past}
 use Rattle.queue.specs.Waits.{Put, Taken}
 use Rattle.slots.specs.Order.{Placed, Ahead}
 use Rattle.slots.specs.Waiting.{waits_of}
 
 pub nth_set_other : {X : Type 0} (xs : List X) (i k : ℕ) (a : X) → k ≢ i → slice_get (set xs i a) k ≡ slice_get xs k
-nth_set_other [] i k a ne = refl
-nth_set_other (x ∷ xs) zero zero a ne = absurd (ne refl)
-nth_set_other (x ∷ xs) zero (suc k) a ne = refl
-nth_set_other (x ∷ xs) (suc i) zero a ne = refl
-nth_set_other (x ∷ xs) (suc i) (suc k) a ne = nth_set_other xs i k a (λ e. ne (ap suc e))
+nth_set_other xs i k a ne = grind (arith, common_steps, gets)
 
 pub yes_below : (a b : ℕ) → a < b → ltb a b ≡ true
 yes_below a b h = grind arith

@@ -1,6 +1,6 @@
 -- To read a field of a row is to read its column there, and to write it is to write there and leave the other columns.
-use Rattle.std.proofs.Common.{◌≡◌, ℕ, zero, suc, ◌<◌, List, [], ◌∷◌, map, length, get_or, set, refl, arith}
-use Rattle.std.proofs.lemmas.List.{map-set}
+use Rattle.std.proofs.Common.{◌≡◌, ℕ, ◌<◌, List, map, length, get_or, set, sym, refl, arith}
+use Rattle.std.proofs.lemmas.List.{get_or-map, map-set}
 use Rattle.std.proofs.Math.Seq.{map-set_same}
 use Rattle.slots.specs.declared.slot.Slot.{Slot}
 use Rattle.slots.specs.Rows.{charges, cells, positions}
@@ -8,9 +8,7 @@ use Rattle.slots.specs.Order.{Placed}
 
 module _ {A B : Type 0} (f : A → B) where
   pub read : (rows : List A) (i : ℕ) (d : A) (e : B) → i < length rows → f (get_or rows i d) ≡ get_or (map f rows) i e
-  read [] i d e h = absurd (omega arith)
-  read (s ∷ ss) zero d e h = refl
-  read (s ∷ ss) (suc i) d e h = read ss i d e (omega arith)
+  read rows i d e h = sym (get_or-map f rows i d e h)
 
 module _ {C : Type 0} (rows : List (Slot C)) (i : ℕ) (d : Slot C) where
   -- the cell that stands at a position is one of the cells
