@@ -1,5 +1,5 @@
 -- How many rows there are of each sort, and what rows hold that tell nothing. Stands on the structs of the rows.
-use Rattle.std.specs.Prelude.{ℕ, true, false, Some, vec_len}
+use Rattle.std.specs.Prelude.{◌≡◌, ℕ, true, false, Some, replicate}
 use Rattle.search.specs.Columns.{blank_row}
 use Rattle.search.specs.declared.cell.Cell.TheVariants.{Settled}
 use Rattle.owned_rows.specs.declared.Counts.{Counts}
@@ -10,9 +10,11 @@ use Rattle.owned_rows.specs.declared.OwnedRows.{OwnedRows}
 abbrev pub as_many : ℕ → Counts
 as_many n = record { cells = n; slots = n; steps = n }
 
--- how many there are
-abbrev pub counted : {C : Type 0} → OwnedRows C → Counts
-counted r = record { cells = vec_len r.cells; slots = vec_len r.slots; steps = vec_len r.run }
+-- so many rows of each sort, which hold the filling and nothing else
+pub record Holds {C : Type 0} (counts : Counts) (filling : Filling C) (rows : OwnedRows C) : Type 0 where
+  pub cells : rows.cells.items ≡ replicate counts.cells filling.cell
+  pub slots : rows.slots.items ≡ replicate counts.slots filling.slot
+  pub steps : rows.run.items ≡ replicate counts.steps filling.step
 
 -- rows that tell nothing, with the charge c where one has to stand
 abbrev pub blank_filling : {C : Type 0} → C → Filling C

@@ -1,10 +1,10 @@
 // Rows of working memory in vectors, for programs that plan: what a plan is lent comes out of them.
 #![tactic(auto)]
 
-ghost use Rattle.std.specs.Prelude.{◌≡◌, ℕ, length, vec_len, IfOk, None};
+ghost use Rattle.std.specs.Prelude.{◌≡◌, ℕ, length, vec_len, replicate, IfOk, None};
 ghost use Rattle.slots.specs.Order.{ranked};
 ghost use Rattle.slots.specs.Queues.{many_rows, what_waits, InRowOrder};
-ghost use Rattle.owned_rows.specs.Fillings.{as_many, counted, blank_filling, used_filling};
+ghost use Rattle.owned_rows.specs.Fillings.{Holds, as_many, blank_filling, used_filling};
 
 use charge::kind::Charge;
 use search::cell::{Cell, Link, Reached, Row};
@@ -100,25 +100,36 @@ pub struct OwnedRows<C> {
     pub run: Vec<Step>,
 }
 
-impl<C: Charge + Clone> OwnedRows<C> {
-    // So many rows of each sort. Each holds the filling, but a plan overwrites whatever they hold, so what is told is how many
-    // there are.
+// So many rows that all hold the same. (They are entered one by one: of a macro's copies of a row with a charge it is not known that
+// they are the row, since a copy of the macro is a clone.)
+fn alike<R: Copy>(heap: Global, row: R, many: usize) -> Result<Vec<R>, AllocError>
+    ensures { IfOk result (λ v. v.items ≡ replicate many row) }
+{
+    let mut rows = Vec::with_capacity(heap, many)?;
+    for _ in 0..many {
+        rows.push(row)?;
+    }
+    Ok(rows)
+}
+
+impl<C: Charge> OwnedRows<C> {
+    // So many rows of each sort, which hold the filling.
     pub fn filled(
         heap: Global,
         counts: Counts,
         filling: Filling<C>,
     ) -> Result<OwnedRows<C>, AllocError>
-        ensures { IfOk result (λ r. counted r ≡ counts) }
+        ensures { IfOk result (λ r. Holds counts filling r) }
     {
-        let cells = vec![in heap; filling.cell; counts.cells]?;
-        let slots = vec![in heap; filling.slot; counts.slots]?;
-        let run = vec![in heap; filling.step; counts.steps]?;
+        let cells = alike(heap, filling.cell, counts.cells)?;
+        let slots = alike(heap, filling.slot, counts.slots)?;
+        let run = alike(heap, filling.step, counts.steps)?;
         Ok(OwnedRows { cells, slots, run })
     }
 
     // As many rows of each sort, which tell nothing.
     pub fn blank(heap: Global, many: usize) -> Result<OwnedRows<C>, AllocError>
-        ensures { IfOk result (λ r. counted r ≡ as_many many) }
+        ensures { IfOk result (λ r. Holds (as_many many) (blank_filling C.Charge.free) r) }
     {
         OwnedRows::filled(heap, Counts::each(many), Filling::blank())
     }
