@@ -5,6 +5,7 @@
 ghost use Rattle.std.specs.Prelude.{◌≡◌, ◌≤◌, length, Ok, IfOk, IsErr, OnOk, MatchOption};
 ghost use Rattle.survey.specs.Sealing.{sealed_contents};
 ghost use Rattle.survey_file.specs.Decode.{decode};
+ghost use Rattle.input.specs.Filling.{Filled};
 ghost use Rattle.input.specs.Requests.{request_in};
 
 use refusal::{Fault, Refusal};
@@ -38,22 +39,29 @@ pub fn request_in(bytes: &[u8]) -> Result<Request, Fault>
     })
 }
 
-// Fills the buffer from standard input, as far as there is input; how many bytes came. (Tried with `take`: no clause of the library
-// bounds what it lets through. So the buffer bounds what is read, and the count stands beside it.)
-pub fn read_input(rt: &HostRuntime, buffer: &mut [u8]) -> io::Result<usize>
-    ensures { IfOk result (λ n. n ≤ length buffer.old) }
+// Fills the buffer from a reader, as far as that gives bytes; how many came. (Tried with `take`: no clause of the library bounds what
+// it lets through. So the buffer bounds what is read, and the count stands beside it.)
+#[tactic(auto, using(crate::proofs::Fills::front, crate::proofs::Fills::both_given))]
+pub fn fill<R: Read>(source: &mut R, buffer: &mut [u8]) -> io::Result<usize>
+    ensures within { IfOk result (λ n. n ≤ length buffer.old) }
+    ensures filled { IfOk result (λ n. Filled (R.Read.remaining source.old) (R.Read.remaining source.new) n buffer.new) }
 {
-    let mut stdin = rt.stdin();
     let mut at = 0;
     for _ in 0..buffer.len() {
-        let end = buffer.len();
-        let count = stdin.read(&mut buffer[at..end])?;
+        let count = source.read(&mut buffer[at..])?;
         if count == 0 {
             return Ok(at);
         }
         at += count;
     }
     Ok(at)
+}
+
+// The same from standard input.
+pub fn read_input(rt: &HostRuntime, buffer: &mut [u8]) -> io::Result<usize>
+    ensures { IfOk result (λ n. n ≤ length buffer.old) }
+{
+    fill(&mut rt.stdin(), buffer)
 }
 
 // Prints a text.
