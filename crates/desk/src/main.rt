@@ -35,7 +35,7 @@ fn run(rt: &HostRuntime) -> anyhow::Result<()> {
     if let (Some(survey_name), Some(calls_name)) = (args.next(), args.next()) {
         let file = bytes_of(rt, survey_name.as_str())?;
         let text = bytes_of(rt, calls_name.as_str())?;
-        if let Some(survey) = survey_in(rt, file.as_slice())? {
+        if let Some(survey) = survey_in(rt.alloc(), &mut rt.stdout(), file.as_slice())? {
             if let Some(script) = read_calls(rt, text.as_slice())? {
                 work::try_script(rt, &survey, script)?;
             }

@@ -52,8 +52,15 @@ pub fn print_last(
 ) -> anyhow::Result<()> {
     let count = match gave {
         Ok(planned) => planned.steps.min(run.len()),
-        Err(refusal) => return print_refusal(rt, refusal),
+        Err(refusal) => return print_refusal(&mut rt.stdout(), refusal),
     };
     let most = count.saturating_add(2).saturating_mul(128);
-    print_sheet(rt, survey, request, &run[..count], most)
+    print_sheet(
+        rt.alloc(),
+        &mut rt.stdout(),
+        survey,
+        request,
+        &run[..count],
+        most,
+    )
 }

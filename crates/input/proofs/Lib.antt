@@ -1,1 +1,2 @@
 mod Fills
+mod Fronts

@@ -2,16 +2,23 @@
 // print.
 #![tactic(auto)]
 
-ghost use Rattle.std.specs.Prelude.{◌≡◌, ◌≤◌, length, Ok, IfOk, IsErr, OnOk, MatchOption};
+ghost use Rattle.std.specs.Prelude.{◌≡◌, ℕ, ◌≤◌, List, length, replicate, Ok, IfOk, IsErr, OnOk, MatchOption};
 ghost use Rattle.survey.specs.Sealing.{sealed_contents};
 ghost use Rattle.survey_file.specs.Decode.{decode};
+ghost use Rattle.views.specs.SurveySite.{money_site};
+ghost use Rattle.std.specs.Io.KnownBytes.{Appends};
+ghost use Rattle.byte_slices.specs.Lay.{placed, over};
+ghost use Rattle.sheet.specs.Refused.{refusal_text, fault_text};
 ghost use Rattle.input.specs.Filling.{Filled};
+ghost use Rattle.input.specs.Printing.{fault_line_of, Shown};
 ghost use Rattle.input.specs.Requests.{request_in};
 
+use anyhow::anyhow;
 use refusal::{Fault, Refusal};
 use sheet::page::sheet;
 use sheet::refused::{fault_line, refusal_line};
 use site::run::{Request, Step};
+use std::alloc::Global;
 use std::io;
 use std::io::{Read, Write};
 use survey::draft::Draft;
@@ -64,60 +71,94 @@ pub fn read_input(rt: &HostRuntime, buffer: &mut [u8]) -> io::Result<usize>
     fill(&mut rt.stdin(), buffer)
 }
 
-// Prints a text.
-pub fn print_text(rt: &HostRuntime, text: &[u8]) -> anyhow::Result<()> {
-    rt.stdout().write_all(text)?;
+// Prints a text to a writer.
+fn print_text<W: Write>(out: &mut W, text: &[u8]) -> anyhow::Result<()>
+    ensures { OnOk result (Appends (W.Write.contents out.old) (W.Write.contents out.new) text.now) }
+{
+    out.write_all(text)?;
     Ok(())
 }
 
-// Prints the line of a fault in a file. (The line is laid into bytes that are lent, since to make it takes no memory; it has less
-// than 64, so nothing is left for the other arm to do.)
-pub fn print_fault(rt: &HostRuntime, fault: Fault) -> anyhow::Result<()> {
-    let mut text = [0u8; 64];
-    match fault_line(fault, &mut text) {
-        Ok(length) => print_text(rt, &text[..length]),
-        Err(_) => Ok(()),
+// Prints a piece that was laid to the front of bytes; an error where they were too few for it.
+#[tactic(auto, using(crate::proofs::Fronts::appended))]
+fn print_laid<W: Write>(
+    out: &mut W,
+    laid: Result<usize, Refusal>,
+    text: &[u8],
+) -> anyhow::Result<()>
+    ensures { (bytes piece : List ℕ) → laid ≡ placed bytes 0 piece → text.now ≡ over bytes 0 piece → OnOk result (Appends (W.Write.contents out.old) (W.Write.contents out.new) piece) }
+{
+    match laid {
+        Ok(length) if length <= text.len() => print_text(out, &text[..length]),
+        _ => Err(anyhow!("a line is longer than the bytes for it")),
     }
+}
+
+// Prints the line of a fault in a file. (The line is laid into bytes that are lent, since to make it takes no memory; it has less
+// than 64.)
+pub fn print_fault<W: Write>(out: &mut W, fault: Fault) -> anyhow::Result<()>
+    ensures { OnOk result (Appends (W.Write.contents out.old) (W.Write.contents out.new) (fault_text fault)) }
+{
+    let mut text = [0u8; 64];
+    let laid = fault_line(fault, &mut text);
+    print_laid(out, laid, &text)
 }
 
 // Prints the line of a refusal. (The same; the two differ in the call that makes the line.)
-pub fn print_refusal(rt: &HostRuntime, refusal: Refusal) -> anyhow::Result<()> {
+pub fn print_refusal<W: Write>(out: &mut W, refusal: Refusal) -> anyhow::Result<()>
+    ensures { OnOk result (Appends (W.Write.contents out.old) (W.Write.contents out.new) (refusal_text refusal)) }
+{
     let mut text = [0u8; 64];
-    match refusal_line(refusal, &mut text) {
-        Ok(length) => print_text(rt, &text[..length]),
-        Err(_) => Ok(()),
-    }
+    let laid = refusal_line(refusal, &mut text);
+    print_laid(out, laid, &text)
 }
 
 // The survey of a file, or none where the file is refused, and then the line of the fault is printed.
-pub fn survey_in(rt: &HostRuntime, file: &[u8]) -> anyhow::Result<Option<Sealed>>
-    ensures { IfOk result (λ o. MatchOption o (IsErr (decode file.now)) (λ s. decode file.now ≡ Ok (sealed_contents s))) }
+pub fn survey_in<W: Write>(heap: Global, out: &mut W, file: &[u8]) -> anyhow::Result<Option<Sealed>>
+    ensures survey { IfOk result (λ o. MatchOption o (IsErr (decode file.now)) (λ s. decode file.now ≡ Ok (sealed_contents s))) }
+    ensures printed { OnOk result (Appends (W.Write.contents out.old) (W.Write.contents out.new) (fault_line_of (decode file.now))) }
 {
-    let mut reader = FileReader::new(rt.alloc())?;
-    let mut draft = Draft::new(rt.alloc())?;
+    let mut reader = FileReader::new(heap)?;
+    let mut draft = Draft::new(heap)?;
     match reader.read(file, &mut draft) {
         Ok(()) => Ok(Some(draft.seal())),
         Err(fault) => {
-            print_fault(rt, fault)?;
+            print_fault(out, fault)?;
             Ok(None)
         }
     }
 }
 
+// Prints the sheet of the steps over a survey, or why there is none, on a page that is lent.
+fn print_page<W: Write>(
+    out: &mut W,
+    survey: &Sealed,
+    request: Request,
+    steps: &[Step],
+    page: &mut [u8],
+) -> anyhow::Result<()>
+    ensures { OnOk result ((text : List ℕ) × Shown (money_site (sealed_contents survey.now)) request steps.now page.old text × Appends (W.Write.contents out.old) (W.Write.contents out.new) text) }
+{
+    match sheet(survey, request, steps, page) {
+        Ok(length) => print_text(out, &page[..length]),
+        Err(refusal) => print_refusal(out, refusal),
+    }
+}
+
 // Prints the sheet of the steps over a survey, which may have so many bytes, or why there is none. (The page is lent to `sheet`, which
 // takes no memory of its own: so the bytes are here, and how many of them were written is its answer.)
-pub fn print_sheet(
-    rt: &HostRuntime,
+pub fn print_sheet<W: Write>(
+    heap: Global,
+    out: &mut W,
     survey: &Sealed,
     request: Request,
     steps: &[Step],
     most: usize,
-) -> anyhow::Result<()> {
-    let mut page = vec![in rt.alloc(); 0u8; most]?;
-    match sheet(survey, request, steps, &mut page) {
-        Ok(length) => print_text(rt, &page[..length]),
-        Err(refusal) => print_refusal(rt, refusal),
-    }
+) -> anyhow::Result<()>
+    ensures { OnOk result ((text : List ℕ) × Shown (money_site (sealed_contents survey.now)) request steps.now (replicate most 0) text × Appends (W.Write.contents out.old) (W.Write.contents out.new) text) }
+{
+    let mut page = vec![in heap; 0u8; most]?;
+    print_page(out, survey, request, steps, &mut page)
 }
 
 #[cfg(test)]
@@ -125,8 +166,7 @@ mod tests {
     use super::*;
     use std::test::Fail;
 
-    // There is memory for a page, and a page that is too short is no error. (A test cannot read what it prints: the bytes are
-    // compared where the programs are run.)
+    // There is memory for a page, and a page that is too short is no error: no steps from a place to itself.
     #[test]
     fn a_sheet_is_printed(rt: HostRuntime) -> Result<(), Fail> {
         let mut draft = Draft::new(rt.alloc())?;
@@ -137,20 +177,40 @@ mod tests {
             end: 0,
             bound: 1,
         };
-        for most in [0, 512] {
-            assert!(rt; print_sheet(&rt, &survey, request, &[], most).is_ok());
+        let mut out = Vec::new(rt.alloc());
+        for most in [512, 0] {
+            let printed = print_sheet(rt.alloc(), &mut out, &survey, request, &[], most);
+            assert!(rt; printed.is_ok());
         }
+        assert_eq!(rt;
+            out.as_slice(),
+            b"RUN 0 0 1\nTOTAL 0\nREFUSED 18\n".as_slice()
+        );
         Ok(())
     }
 
-    // There is memory for a survey: a file of one place is read, and one without bytes is refused and its fault printed.
+    // There is memory for a survey: a file of one place is read and nothing printed, and one without bytes is refused and its fault
+    // printed.
     #[test]
     fn a_survey_is_read(rt: HostRuntime) -> Result<(), Fail> {
         let file = [1, 0, 2, 0, 1, 2, 0, 0, 4, 0, 0];
-        let read = survey_in(&rt, &file);
+        let mut out = Vec::new(rt.alloc());
+        let read = survey_in(rt.alloc(), &mut out, &file);
         assert!(rt; matches!(read, Ok(Some(_))));
-        let refused = survey_in(&rt, &[]);
+        assert!(rt; out.is_empty());
+        let refused = survey_in(rt.alloc(), &mut out, &[]);
         assert!(rt; matches!(refused, Ok(None)));
+        assert_eq!(rt; out.as_slice(), b"REFUSED 1 0\n".as_slice());
+        Ok(())
+    }
+
+    // A buffer is filled with what a reader gives, one read behind the other.
+    #[test]
+    fn a_buffer_is_filled(rt: HostRuntime) -> Result<(), Fail> {
+        let mut source = std::io::Read::chain(&b"abc"[..], &b"defg"[..]);
+        let mut buffer = [0u8; 6];
+        assert!(rt; matches!(fill(&mut source, &mut buffer), Ok(6)));
+        assert_eq!(rt; buffer, *b"abcdef");
         Ok(())
     }
 }

@@ -20,14 +20,21 @@ fn plan_survey(rt: &HostRuntime, survey: &Sealed, request: Request) -> anyhow::R
     let mut rows = OwnedRows::blank(rt.alloc(), ROWS)?;
     let mut memory = rows.lend::<Binary>();
     match plan_for_money(survey, request, &mut memory) {
-        Ok(planned) => print_sheet(rt, survey, request, &memory.run[..planned.steps], PAGE),
-        Err(refusal) => print_refusal(rt, refusal),
+        Ok(planned) => print_sheet(
+            rt.alloc(),
+            &mut rt.stdout(),
+            survey,
+            request,
+            &memory.run[..planned.steps],
+            PAGE,
+        ),
+        Err(refusal) => print_refusal(&mut rt.stdout(), refusal),
     }
 }
 
 // What a request and a survey file come to.
 fn answer(rt: &HostRuntime, request: Request, file: &[u8]) -> anyhow::Result<()> {
-    match survey_in(rt, file)? {
+    match survey_in(rt.alloc(), &mut rt.stdout(), file)? {
         Some(survey) => plan_survey(rt, &survey, request),
         None => Ok(()),
     }
@@ -39,6 +46,6 @@ fn main(rt: HostRuntime) -> anyhow::Result<()> {
     let count = read_input(&rt, &mut input)?;
     match request_in(&input[..count]) {
         Ok(request) => answer(&rt, request, &input[6..count]),
-        Err(fault) => print_fault(&rt, fault),
+        Err(fault) => print_fault(&mut rt.stdout(), fault),
     }
 }

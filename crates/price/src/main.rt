@@ -43,8 +43,8 @@ fn read_steps(heap: Global, bytes: &[u8]) -> Result<Vec<Step>, AllocError> {
 // What a request, steps and a survey file come to.
 fn answer(rt: &HostRuntime, request: Request, steps: &[u8], file: &[u8]) -> anyhow::Result<()> {
     let drawn = read_steps(rt.alloc(), steps)?;
-    match survey_in(rt, file)? {
-        Some(survey) => print_sheet(rt, &survey, request, &drawn, PAGE),
+    match survey_in(rt.alloc(), &mut rt.stdout(), file)? {
+        Some(survey) => print_sheet(rt.alloc(), &mut rt.stdout(), &survey, request, &drawn, PAGE),
         None => Ok(()),
     }
 }
@@ -52,7 +52,7 @@ fn answer(rt: &HostRuntime, request: Request, steps: &[u8], file: &[u8]) -> anyh
 fn run(rt: &HostRuntime, input: &[u8]) -> anyhow::Result<()> {
     match parts(input) {
         Ok((request, steps, file)) => answer(rt, request, steps, file),
-        Err(fault) => print_fault(rt, fault),
+        Err(fault) => print_fault(&mut rt.stdout(), fault),
     }
 }
 
