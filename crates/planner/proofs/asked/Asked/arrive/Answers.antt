@@ -13,7 +13,7 @@ use Rattle.search.specs.Columns.{cells_of}
 use Rattle.search.proofs.Covers.{step_rises}
 use Rattle.search.proofs.Turns.{offer_turn, offer_count, offer_covered_at, offer_covered_on, count_most}
 use Rattle.search.proofs.Trails.{cell_place, cell_loss, after_low}
-use Rattle.planner.proofs.Kept.{still_ready}
+use Rattle.planner.proofs.Kept.{ready_kept}
 use Rattle.planner.proofs.asked.Asked.arrive.Given as given
 use Rattle.planner.proofs.asked.Asked.arrive.Goals as goal
 
@@ -85,11 +85,15 @@ returns g c =
     let up : g.S.Charge.Charge.within c.args.from.here.charge new.charge ≡ true = subst (λ z. g.S.Charge.Charge.within c.args.from.here.charge z ≡ true) (sym c.charge_after-charge.ensures) (step_rises k laws m c.args.from.here.charge c.args.step.mark (Some c.args.w)) in
     let o = c.offer.ensures.offered in
     record {
-      ready = still_ready c.requires.ready c.offer.ensures.same c.offer.ensures.ordered c.offer.ensures.index;
-      same = c.offer.ensures.same;
-      count = offer_count k laws m c.args.self.now.request rows rows' waits waits' at new inside o;
-      turn = offer_turn k laws m c.args.self.now.request rows rows' waits waits' at new inside o c.args.from.at c.args.from.here turn up next (let f = turn.books.fewer _ _ turn.row in omega arith);
-      keeps = λ p l sum h. offer_covered_on k laws m c.args.self.now.request rows rows' waits waits' at new inside o p l sum h;
+      still = record {
+        rows = record {
+          ready = ready_kept c.requires.ready c.offer.ensures.same c.offer.ensures.ordered c.offer.ensures.index;
+          same = c.offer.ensures.same;
+          count = offer_count k laws m c.args.self.now.request rows rows' waits waits' at new inside o;
+        };
+        turn = offer_turn k laws m c.args.self.now.request rows rows' waits waits' at new inside o c.args.from.at c.args.from.here turn up next (let f = turn.books.fewer _ _ turn.row in omega arith);
+        keeps = λ p l sum h. offer_covered_on k laws m c.args.self.now.request rows rows' waits waits' at new inside o p l sum h;
+      };
       covered = subst (λ z. Covered k c.args.self.now.request (done_in rows') waits' c.args.w.to (loss_after c.args.step.mark (loss_of c.args.self.now.request c.args.from.at + c.args.w.loss)) z) c.charge_after-charge.ensures
           (offer_covered_at k laws m c.args.self.now.request rows rows' waits waits' at new inside o c.args.w.to _ place loss);
     }
