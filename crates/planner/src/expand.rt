@@ -1,11 +1,11 @@
-ghost use Rattle.std.specs.Prelude.{◌≡◌, ◌+◌, ◌<◌, true, false, length, Some};
+ghost use Rattle.std.specs.Prelude.{◌+◌, ◌<◌, length, Some};
 ghost use Rattle.site.specs.Runs.{after_way, loss_after, Goes};
 ghost use Rattle.site.specs.Whole.{kind_of};
 ghost use Rattle.search.specs.Cells.{place_of, loss_of};
-ghost use Rattle.search.specs.Search.{Covered, Keeps, Offered};
-ghost use Rattle.search.specs.Rows.{done_in, settled_count};
+ghost use Rattle.search.specs.Search.{Covered, Offered};
+ghost use Rattle.search.specs.Rows.{done_in};
 ghost use Rattle.search.specs.Columns.{cells_of};
-ghost use Rattle.planner.specs.Work.{Ready, SameWork, AtTurn, AtRest};
+ghost use Rattle.planner.specs.Work.{Ready, StillReady, StillAtTurn, AtTurn, AtRest};
 
 use crate::asked::Asked;
 use crate::work::{Settled, Work};
@@ -28,11 +28,7 @@ impl<S: Site> Asked<'_, S> {
         requires ready { Ready (S.Site.meaning self.now.site.now) self.now.request Q.PriorityQueue.many Q.PriorityQueue.ordered work.old }
         requires turn { AtTurn (kind_of S.Charge.Charge) (S.Site.meaning self.now.site.now) self.now.request Q.PriorityQueue.waits work.old from.at from.here }
         requires goes { Goes (S.Site.meaning self.now.site.now) self.now.request (place_of self.now.request from.at) (loss_of self.now.request from.at) step w }
-        ensures ready { Ready (S.Site.meaning self.now.site.now) self.now.request Q.PriorityQueue.many Q.PriorityQueue.ordered work.new }
-        ensures same { SameWork Q.PriorityQueue.many Q.PriorityQueue.lenders work.old work.new }
-        ensures count { settled_count (cells_of work.new.cells.now) ≡ settled_count (cells_of work.old.cells.now) }
-        ensures turn { AtTurn (kind_of S.Charge.Charge) (S.Site.meaning self.now.site.now) self.now.request Q.PriorityQueue.waits work.new from.at from.here }
-        ensures keeps { Keeps (kind_of S.Charge.Charge) self.now.request (done_in (cells_of work.old.cells.now)) (Q.PriorityQueue.waits work.old.queue.now) (done_in (cells_of work.new.cells.now)) (Q.PriorityQueue.waits work.new.queue.now) }
+        ensures still { StillAtTurn (kind_of S.Charge.Charge) (S.Site.meaning self.now.site.now) self.now.request Q.PriorityQueue.many Q.PriorityQueue.lenders Q.PriorityQueue.ordered Q.PriorityQueue.waits work.old work.new from.at from.here }
         ensures covered { Covered (kind_of S.Charge.Charge) self.now.request (done_in (cells_of work.new.cells.now)) (Q.PriorityQueue.waits work.new.queue.now) w.to (loss_after step.mark (loss_of self.now.request from.at + w.loss)) (after_way (kind_of S.Charge.Charge) (S.Site.meaning self.now.site.now) from.here.charge step.mark (Some w)) }
     {
         let Settled { at, here } = from;
@@ -58,11 +54,7 @@ impl<S: Site> Asked<'_, S> {
     )
         requires ready { Ready (S.Site.meaning self.now.site.now) self.now.request Q.PriorityQueue.many Q.PriorityQueue.ordered work.old }
         requires turn { AtTurn (kind_of S.Charge.Charge) (S.Site.meaning self.now.site.now) self.now.request Q.PriorityQueue.waits work.old from.at from.here }
-        ensures ready { Ready (S.Site.meaning self.now.site.now) self.now.request Q.PriorityQueue.many Q.PriorityQueue.ordered work.new }
-        ensures same { SameWork Q.PriorityQueue.many Q.PriorityQueue.lenders work.old work.new }
-        ensures count { settled_count (cells_of work.new.cells.now) ≡ settled_count (cells_of work.old.cells.now) }
-        ensures turn { AtTurn (kind_of S.Charge.Charge) (S.Site.meaning self.now.site.now) self.now.request Q.PriorityQueue.waits work.new from.at from.here }
-        ensures keeps { Keeps (kind_of S.Charge.Charge) self.now.request (done_in (cells_of work.old.cells.now)) (Q.PriorityQueue.waits work.old.queue.now) (done_in (cells_of work.new.cells.now)) (Q.PriorityQueue.waits work.new.queue.now) }
+        ensures still { StillAtTurn (kind_of S.Charge.Charge) (S.Site.meaning self.now.site.now) self.now.request Q.PriorityQueue.many Q.PriorityQueue.lenders Q.PriorityQueue.ordered Q.PriorityQueue.waits work.old work.new from.at from.here }
         ensures offered { Offered (kind_of S.Charge.Charge) (S.Site.meaning self.now.site.now) self.now.request (done_in (cells_of work.new.cells.now)) (Q.PriorityQueue.waits work.new.queue.now) from.at from.here.charge n }
     {
         if let Some(w) = self.site.way(n) {
@@ -98,9 +90,7 @@ impl<S: Site> Asked<'_, S> {
         requires ready { Ready (S.Site.meaning self.now.site.now) self.now.request Q.PriorityQueue.many Q.PriorityQueue.ordered work.old }
         requires inside { from.at < length work.old.cells.now }
         requires turn { AtTurn (kind_of S.Charge.Charge) (S.Site.meaning self.now.site.now) self.now.request Q.PriorityQueue.waits work.old from.at from.here }
-        ensures ready { Ready (S.Site.meaning self.now.site.now) self.now.request Q.PriorityQueue.many Q.PriorityQueue.ordered work.new }
-        ensures same { SameWork Q.PriorityQueue.many Q.PriorityQueue.lenders work.old work.new }
-        ensures count { settled_count (cells_of work.new.cells.now) ≡ settled_count (cells_of work.old.cells.now) }
+        ensures still { StillReady (S.Site.meaning self.now.site.now) self.now.request Q.PriorityQueue.many Q.PriorityQueue.lenders Q.PriorityQueue.ordered work.old work.new }
         ensures rest { AtRest (kind_of S.Charge.Charge) (S.Site.meaning self.now.site.now) self.now.request Q.PriorityQueue.waits work.new }
     {
         let ways = self.site.ways();

@@ -1,9 +1,9 @@
 ghost use Rattle.std.specs.Prelude.{◌≡◌, ◌<◌, true, length, IsSome};
 ghost use Rattle.site.specs.Whole.{kind_of};
 ghost use Rattle.search.specs.Search.{Dominated};
-ghost use Rattle.search.specs.Rows.{settled_as, done_in, settled_count};
+ghost use Rattle.search.specs.Rows.{settled_as, done_in};
 ghost use Rattle.search.specs.Columns.{cells_of};
-ghost use Rattle.planner.specs.Work.{Ready, SameWork, AtTurn, AtRest};
+ghost use Rattle.planner.specs.Work.{Ready, StillReady, AtTurn, AtRest};
 
 use crate::asked::Asked;
 use crate::work::{Settled, Work, set_hint};
@@ -54,9 +54,7 @@ impl<S: Site> Asked<'_, S> {
         requires ready { Ready (S.Site.meaning self.now.site.now) self.now.request Q.PriorityQueue.many Q.PriorityQueue.ordered work.old }
         requires inside { from.at < length work.old.cells.now }
         requires turn { AtTurn (kind_of S.Charge.Charge) (S.Site.meaning self.now.site.now) self.now.request Q.PriorityQueue.waits work.old from.at from.here }
-        ensures ready { Ready (S.Site.meaning self.now.site.now) self.now.request Q.PriorityQueue.many Q.PriorityQueue.ordered work.new }
-        ensures same { SameWork Q.PriorityQueue.many Q.PriorityQueue.lenders work.old work.new }
-        ensures count { settled_count (cells_of work.new.cells.now) ≡ settled_count (cells_of work.old.cells.now) }
+        ensures still { StillReady (S.Site.meaning self.now.site.now) self.now.request Q.PriorityQueue.many Q.PriorityQueue.lenders Q.PriorityQueue.ordered work.old work.new }
         ensures rest { AtRest (kind_of S.Charge.Charge) (S.Site.meaning self.now.site.now) self.now.request Q.PriorityQueue.waits work.new }
     {
         if self.dominated(&*work, from.at) {

@@ -5,13 +5,13 @@ use Rattle.refusal.specs.declared.Fault.{Fault}
 use Rattle.refusal.specs.Numbers.{number}
 
 -- a number in decimal, and a byte behind it
-abbrev pub figure : ℕ → ℕ → List ℕ
-figure n behind = decimal n ++ behind ∷ []
+abbrev pub number_then : ℕ → ℕ → List ℕ
+number_then n behind = decimal n ++ behind ∷ []
 
 -- REFUSED and the number; byte 10 ends the line
 abbrev pub refusal_text : Refusal → List ℕ
-refusal_text r = codes "REFUSED " ++ figure (number r) 10
+refusal_text r = codes "REFUSED " ++ number_then (number r) 10
 
 -- REFUSED, the number and the byte place
 abbrev pub fault_text : Fault → List ℕ
-fault_text f = codes "REFUSED " ++ (figure (number f.refusal) 32 ++ figure f.place 10)
+fault_text f = codes "REFUSED " ++ (number_then (number f.refusal) 32 ++ number_then f.place 10)

@@ -8,11 +8,11 @@ use Rattle.site.specs.declared.run.Step.{Step}
 use Rattle.site.specs.declared.run.Request.{Request}
 use Rattle.site.specs.Meaning.{SiteMeaning}
 use Rattle.site.specs.Runs.{loss_behind, total}
-use Rattle.sheet.specs.Refused.{figure}
+use Rattle.sheet.specs.Refused.{number_then}
 
 -- RUN, start, end and bound
 abbrev pub run_line : Request → List ℕ
-run_line q = codes "RUN " ++ (figure q.start 32 ++ (figure q.end 32 ++ figure q.bound 10))
+run_line q = codes "RUN " ++ (number_then q.start 32 ++ (number_then q.end 32 ++ number_then q.bound 10))
 
 -- R where a repeater is marked, else -
 abbrev pub mark_end : Bool → List ℕ
@@ -20,7 +20,7 @@ mark_end mark = cond mark (82 ∷ 10 ∷ []) (45 ∷ 10 ∷ [])
 
 -- way, from, to, loss on arrival, and the mark
 abbrev pub step_line : ℕ → ℕ → ℕ → ℕ → Bool → List ℕ
-step_line way from to loss mark = figure way 32 ++ (figure from 32 ++ (figure to 32 ++ (figure loss 32 ++ mark_end mark)))
+step_line way from to loss mark = number_then way 32 ++ (number_then from 32 ++ (number_then to 32 ++ (number_then loss 32 ++ mark_end mark)))
 
 -- the line of a step that is made with the loss l so far
 abbrev pub line_of : {C : Type 0} → ℕ → Step → Option (Way C) → List ℕ
@@ -34,7 +34,7 @@ step_lines m l (s ∷ rest) = line_of l s (m.way s.way) ++ step_lines m (loss_be
 
 -- TOTAL and the cents
 abbrev pub total_line : Money → List ℕ
-total_line c = codes "TOTAL " ++ figure (moneys.figure c) 10
+total_line c = codes "TOTAL " ++ number_then (moneys.figure c) 10
 
 -- the whole sheet of a run over a site for money
 abbrev pub sheet_text : SiteMeaning Money → Request → List Step → List ℕ

@@ -1,7 +1,7 @@
 -- What waits after a change of positions: a cell is put, or taken, where it alone changes sides of the length.
 use Rattle.std.proofs.Common.{◌≡◌, ℕ, ◌<◌, ◌≤◌, Bool, true, false, cond, ltb, ◌≢◌, List, length, get_or, set, Some, None, Option, sym, refl, ap, ◌∙◌, inl, inr, arith, length-set, get_or-set_same, ltb-true}
 use Rattle.std.specs.List.{slice_get}
-use Rattle.std.proofs.lemmas.Bool.{cases_Bool, cases_lt}
+use Rattle.std.proofs.lemmas.Bool.{cases_Bool, cases_lt, lt-ltb, le-ltb}
 use Rattle.std.proofs.lemmas.Grind.{common_steps}
 use Rattle.std.proofs.lemmas.Option.{gets, slice_get-get_or, slice_get_past}
 use Rattle.queue.specs.Waits.{Put, Taken}
@@ -10,12 +10,6 @@ use Rattle.slots.specs.Waiting.{waits_of}
 
 pub nth_set_other : {X : Type 0} (xs : List X) (i k : ℕ) (a : X) → k ≢ i → slice_get (set xs i a) k ≡ slice_get xs k
 nth_set_other xs i k a ne = grind (arith, common_steps, gets)
-
-pub yes_below : (a b : ℕ) → a < b → ltb a b ≡ true
-yes_below a b h = grind arith
-
-pub not_below : (a b : ℕ) → b ≤ a → ltb a b ≡ false
-not_below a b h = grind arith
 
 none : {X : Type 0} (b : Bool) → cond {A = Option X} b None None ≡ None
 none true = refl
@@ -36,7 +30,7 @@ module _ {C : Type 0} (n cell : ℕ) (ch : List C) (lch : length ch ≡ n) (ps :
 
   pub put : (x : C) → cell < n → get_or ps' cell 0 < len' → Put (waits_of ch ps len) (waits_of (set ch cell x) ps' len') cell x
   put x hc before = record {
-    here = ap (λ b. cond b (slice_get (set ch cell x) cell) None) (yes_below _ len' before) ∙ slice_get-get_or (set ch cell x) cell x (simp length-set (omega arith)) ∙ ap Some (get_or-set_same ch cell x x (omega arith));
+    here = ap (λ b. cond b (slice_get (set ch cell x) cell) None) (lt-ltb _ len' before) ∙ slice_get-get_or (set ch cell x) cell x (simp length-set (omega arith)) ∙ ap Some (get_or-set_same ch cell x x (omega arith));
     others = λ k ne. ap (λ v. cond (ltb (get_or ps' k 0) len') v None) (nth_set_other ch cell k x ne) ∙ others k ne;
   }
 
@@ -65,8 +59,8 @@ module _ {C : Type 0} (n cell : ℕ) (ch : List C) (lch : length ch ≡ n) (ps :
 
     pub taken : cell < n → get_or ps cell 0 < len → len' ≤ get_or ps' cell 0 → Taken within (waits_of ch ps len) (waits_of ch ps' len') cell v
     taken hc waited gone = record {
-      waited = ap (λ b. cond b (slice_get ch cell) None) (yes_below _ len waited) ∙ slice_get-get_or ch cell v (omega arith) ∙ ap Some (sym (hv v));
+      waited = ap (λ b. cond b (slice_get ch cell) None) (lt-ltb _ len waited) ∙ slice_get-get_or ch cell v (omega arith) ∙ ap Some (sym (hv v));
       least = least;
-      gone = ap (λ b. cond b (slice_get ch cell) None) (not_below _ len' gone);
+      gone = ap (λ b. cond b (slice_get ch cell) None) (le-ltb _ len' gone);
       others = others;
     }

@@ -1,17 +1,15 @@
 -- A cell that does not wait goes to the position behind those that wait: it alone begins to wait, and the others are
 -- arranged as they were, since none of them moves.
-use Rattle.std.proofs.Common.{◌≡◌, ℕ, ◌+◌, ◌<◌, ◌≤◌, Bool, true, ltb, ◌≢◌, List, length, get_or, set, sym, ap, ◌∙◌, inl, inr, arith, get_or-set_other}
-use Rattle.std.proofs.lemmas.Bool.{cases_eq, cases_lt}
+use Rattle.std.proofs.Common.{◌≡◌, ℕ, ◌+◌, ◌<◌, ◌≤◌, Bool, true, ltb, ◌≢◌, List, map, length, get_or, set, sym, ap, ◌∙◌, inl, inr, arith, get_or-set_other}
+use Rattle.std.proofs.lemmas.Bool.{cases_eq, cases_lt, le-ltb}
 use Rattle.std.proofs.lemmas.List.{map-set}
 use Rattle.std.proofs.lemmas.List.Edits.{fill_by_more}
 use Rattle.std.proofs.Math.Seq.{map-set_same}
 use lib.ListN.{length-map}
-use Rattle.slots.specs.declared.slot.Slot.{Slot}
-use Rattle.slots.specs.Rows.{cells, positions}
 use Rattle.slots.specs.Order.{Tree, Placed, Exchanged, SameWait, Rising, Ahead}
 use Rattle.slots.specs.Waiting.{waits_of, InOrder}
 use Rattle.queue.specs.Waits.{Put}
-use Rattle.slots.proofs.Changes.{not_below, OthersStay, put}
+use Rattle.slots.proofs.Changes.{OthersStay, put}
 
 -- cells and positions that hold their own numbers
 pub own_positions : (n : ℕ) (cs ps : List ℕ) → length cs ≡ n → length ps ≡ n → ((k : ℕ) → k < n → get_or cs k 0 ≡ k) → ((k : ℕ) → k < n → get_or ps k 0 ≡ k) → Placed n cs ps
@@ -24,19 +22,14 @@ own_positions n cs ps lc lp hc hp = record {
   back = λ k h. ap (λ m. get_or cs m 0) (hp k h) ∙ hc k h;
 }
 
--- one more row settled
-module _ {C : Type 0} (rows : List (Slot C)) (i : ℕ) (s : Slot C) where
-  pub cells_more : i < length rows → s.cell ≡ i → ((k : ℕ) → k < i → get_or (cells rows) k 0 ≡ k) → (k : ℕ) → k < i + 1 → get_or (cells (set rows i s)) k 0 ≡ k
-  cells_more h is below k b =
-      ap (λ xs. get_or xs k 0) (map-set (λ s. s.cell) rows i s ∙ ap (set (cells rows) i) is)
-      ∙ fill_by_more (λ m. m) (cells rows) i 0 (omega (arith, length-map rows (λ s. s.cell))) below k b
+-- one more row settled: a column that holds its own numbers before `i` does so at `i` too
+pub one_more : {A : Type 0} (f : A → ℕ) (rows : List A) (i : ℕ) (s : A) → i < length rows → f s ≡ i → ((k : ℕ) → k < i → get_or (map f rows) k 0 ≡ k) → (k : ℕ) → k < i + 1
+    → get_or (map f (set rows i s)) k 0 ≡ k
+one_more f rows i s h is below k b =
+    ap (λ xs. get_or xs k 0) (map-set f rows i s ∙ ap (set (map f rows) i) is)
+    ∙ fill_by_more (λ m. m) (map f rows) i 0 (omega (arith, length-map rows f)) below k b
 
-  pub positions_more : i < length rows → s.position ≡ i → ((k : ℕ) → k < i → get_or (positions rows) k 0 ≡ k) → (k : ℕ) → k < i + 1 → get_or (positions (set rows i s)) k 0 ≡ k
-  positions_more h is below k b =
-      ap (λ xs. get_or xs k 0) (map-set (λ s. s.position) rows i s ∙ ap (set (positions rows) i) is)
-      ∙ fill_by_more (λ m. m) (positions rows) i 0 (omega (arith, length-map rows (λ s. s.position))) below k b
-
-pub ruleset settled = (cells_more, positions_more, own_positions, map-set_same)
+pub ruleset settled = (one_more, own_positions, map-set_same)
 
 same_below : (a b : ℕ) → a ≢ b → ltb a (b + 1) ≡ ltb a b
 same_below a b ne = grind (arith, cases_lt a b)
@@ -78,7 +71,7 @@ module _ {C : Type 0} (up down : ℕ → ℕ) (t : Tree up down) (rank : C → C
             let f : get_or ps' k 0 ≡ get_or ps cell 0 = ap (λ m. get_or ps' m 0) q ∙ e.pos_j in
             let g : get_or ps k 0 ≡ len = ap (λ m. get_or ps m 0) q ∙ o.placed.there len room in
             let apart' : get_or ps cell 0 ≢ len = λ z. ne (q ∙ ap (λ m. get_or cs m 0) (sym z) ∙ b) in
-            not_below _ (len + 1) (omega arith) ∙ sym (not_below _ len (omega arith))
+            le-ltb _ (len + 1) (omega arith) ∙ sym (le-ltb _ len (omega arith))
         | inr nl ↦
             let f = e.pos_else k (λ z. ne (z ∙ b)) nl in
             let apart' : get_or ps k 0 ≢ len = λ z. nl (sym (o.placed.back k h) ∙ ap (λ m. get_or cs m 0) z) in
@@ -92,7 +85,7 @@ module _ {C : Type 0} (up down : ℕ → ℕ) (t : Tree up down) (rank : C → C
         | inl b ↦ b
         | inr g ↦
             let s = same cell in
-            let u = not_below _ (len + 1) g in
+            let u = le-ltb _ (len + 1) g in
             let v : ltb (get_or ps' cell 0) (len + 1) ≡ true = yes in
             let z : ◌≡◌ {A = ℕ} 0 1 = cc in
             absurd (omega arith)

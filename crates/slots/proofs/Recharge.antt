@@ -1,17 +1,17 @@
 -- A cell that waits is charged anew: it belongs higher where its charge may stand above the old one, else lower; the
 -- others are arranged as they were, and across its position by transitivity.
 use Rattle.std.proofs.Common.{◌≡◌, ℕ, ◌<◌, Bool, true, ◌≢◌, List, length, get_or, set, sym, ap, ◌∙◌, inl, inr, arith, get_or-set_other, get_or-set_same, ltb-true}
-use Rattle.std.proofs.lemmas.Bool.{cases_eq}
+use Rattle.std.proofs.lemmas.Bool.{cases_eq, lt-ltb}
 use Rattle.slots.specs.Order.{Tree, SameWait, Rising, Sinking, Ahead}
 use Rattle.slots.specs.Waiting.{waits_of, InOrder}
 use Rattle.queue.specs.Waits.{Put}
-use Rattle.slots.proofs.Changes.{yes_below, put}
+use Rattle.slots.proofs.Changes.{put}
 
 -- it waits with the new charge, where the same cells wait as before
 pub waits_anew : {C : Type 0} {n len cell : ℕ} (ch : List C) {ch' : List C} {x : C} (ps ps' : List ℕ) → length ch ≡ n → cell < n → get_or ps cell 0 < len → ch' ≡ set ch cell x → SameWait len ps ps'
     → Put (waits_of ch ps len) (waits_of ch' ps' len) cell x
 waits_anew {n = n} {len = len} {cell = cell} ch {x = x} ps ps' lch hc w wrote same =
-    rw wrote (put n cell ch lch ps len ps' len (λ k h ne. same k) x hc (ltb-true _ _ (same cell ∙ yes_below _ len w)))
+    rw wrote (put n cell ch lch ps len ps' len (λ k h ne. same k) x hc (ltb-true _ _ (same cell ∙ lt-ltb _ len w)))
 
 module _ {C : Type 0} {up down : ℕ → ℕ} (t : Tree up down) {rank : C → C → Bool} (trans : (a b c : C) → rank a b ≡ true → rank b c ≡ true → rank a c ≡ true)
     {n len cell : ℕ} {ch : List C} (x : C) {old : C} {cs ps : List ℕ}

@@ -1,21 +1,21 @@
 -- The cell at the top leaves: it changes positions with the last that waits, which then sinks; it alone stops waiting,
 -- and it may stand above all that wait.
 use Rattle.std.proofs.Common.{◌≡◌, ℕ, ◌-◌, ◌<◌, ◌≤◌, Bool, true, ltb, ◌≢◌, List, length, get_or, sym, ap, ◌∙◌, inl, inr, arith}
-use Rattle.std.proofs.lemmas.Bool.{cases_eq, cases_lt}
+use Rattle.std.proofs.lemmas.Bool.{cases_eq, cases_lt, lt-ltb, le-ltb}
 use Rattle.slots.specs.Order.{Tree, Exchanged, SameWait, Sinking, Ahead}
 use Rattle.slots.specs.Waiting.{waits_of, InOrder}
 use Rattle.queue.specs.Waits.{Taken}
 use Rattle.slots.proofs.Sink.{top_ahead}
-use Rattle.slots.proofs.Changes.{yes_below, not_below, OthersStay, taken}
+use Rattle.slots.proofs.Changes.{OthersStay, taken}
 
 pub same_less : (a b : ℕ) → 0 < b → a ≢ b - 1 → ltb a (b - 1) ≡ ltb a b
-same_less a b h ne = elim (cases_lt a b) [ inl l ↦ yes_below a (b - 1) (omega arith) ∙ sym (yes_below a b l) | inr g ↦ not_below a (b - 1) (omega arith) ∙ sym (not_below a b g) ]
+same_less a b h ne = elim (cases_lt a b) [ inl l ↦ lt-ltb a (b - 1) (omega arith) ∙ sym (lt-ltb a b l) | inr g ↦ le-ltb a (b - 1) (omega arith) ∙ sym (le-ltb a b g) ]
 
 -- what does not stand before a length before the change does not after it
 pub not_before : (a b len : ℕ) → ltb a len ≡ ltb b len → len ≤ b → len ≤ a
 not_before a b len same h =
     elim (cases_lt a len) [
-      | inl l ↦ let u = yes_below a len l in let v = not_below b len h in let z : ◌≡◌ {A = ℕ} 0 1 = cc in absurd (omega arith)
+      | inl l ↦ let u = lt-ltb a len l in let v = le-ltb b len h in let z : ◌≡◌ {A = ℕ} 0 1 = cc in absurd (omega arith)
       | inr g ↦ g
     ]
 
@@ -40,7 +40,7 @@ module _ {C : Type 0} (up down : ℕ → ℕ) (t : Tree up down) (rank : C → C
             let f : get_or ps' k 0 ≡ 0 = ap (λ m. get_or ps' m 0) q ∙ e.pos_j in
             let g : get_or ps k 0 ≡ len - 1 = ap (λ m. get_or ps m 0) q ∙ o.placed.there (len - 1) (omega arith) in
             let more : len - 1 ≢ 0 = λ z. ne (q ∙ ap (λ m. get_or cs m 0) z) in
-            yes_below _ (len - 1) (omega arith) ∙ sym (yes_below _ len (omega arith))
+            lt-ltb _ (len - 1) (omega arith) ∙ sym (lt-ltb _ len (omega arith))
         | inr nl ↦
             let apart : get_or ps k 0 ≢ len - 1 = λ z. nl (sym (o.placed.back k h) ∙ ap (λ m. get_or cs m 0) z) in
             ap (λ m. ltb m (len - 1)) (e.pos_else k ne nl) ∙ same_less (get_or ps k 0) len hl apart

@@ -1,6 +1,6 @@
 -- The offer to the cell where a lawful step leads: there is room for it since the step's place and loss are those of a cell; its
 -- charge is no less than that of the cell it comes from, since joining never lowers; so the state is kept and the cell covered.
-use Rattle.std.proofs.Common.{◌≡◌, ℕ, ◌+◌, ◌*◌, ◌<◌, true, length, Some, sym, refl, ap, ◌∙◌, subst, arith}
+use Rattle.std.proofs.Common.{◌≡◌, ℕ, ◌+◌, ◌*◌, ◌<◌, ◌≤◌, true, length, Some, sym, refl, ap, ◌∙◌, subst, arith}
 use lib.Arith.{digits_lt}
 use lib.ListN.{length-map}
 use Rattle.site.specs.Whole.{kind_of}
@@ -13,9 +13,10 @@ use Rattle.search.specs.Columns.{cells_of}
 use Rattle.search.proofs.Covers.{step_rises}
 use Rattle.search.proofs.Turns.{offer_turn, offer_count, offer_covered_at, offer_covered_on, count_most}
 use Rattle.search.proofs.Trails.{cell_place, cell_loss, after_low}
-use Rattle.planner.proofs.Kept.{still_ready}
+use Rattle.planner.proofs.Kept.{ready_kept}
 use Rattle.planner.proofs.asked.Asked.arrive.Given as given
 use Rattle.planner.proofs.asked.Asked.arrive.Goals as goal
+use Rattle.planner.proofs.asked.Asked.arrive.Goals.{After-charge_after-charge}
 
 laws_of : (g : given.Over) → Laws (kind_of g.S.Charge.Charge)
 laws_of g =
@@ -29,32 +30,46 @@ overflow_add-here g c =
     let size = length-map c.args.work.now.cells.now (λ r. r.cell) in
     omega (arith, c.requires.ready.room.fits)
 
+-- the step arrives with the loss of its cell, which is at most the bound
+lost : (g : given.Over) (c : After-charge_after-charge g) → c.loss_after-loss.result ≡ loss_after c.args.step.mark (loss_of c.args.self.now.request c.args.from.at + c.args.w.loss)
+lost g c = c.loss_after-loss.ensures ∙ ap (λ (z : ℕ). loss_after c.args.step.mark (z + c.args.w.loss)) c.loss_of.ensures.same
+
+low : (g : given.Over) (c : After-charge_after-charge g) → c.loss_after-loss.result ≤ c.args.self.now.request.bound
+low g c = after_low c.args.self.now.request c.args.step.mark _ _ c.requires.goes.arrives (lost g c)
+
+-- the cell where the step leads is one of the request's cells
+one_of : (g : given.Over) (c : After-charge_after-charge g) → c.cell_of-target.result < (g.S.Site.meaning c.args.self.now.site.now).places * (c.args.self.now.request.bound + 1)
+one_of g c =
+    let l = low g c in
+    let h : c.loss_after-loss.result < c.args.self.now.request.bound + 1 = omega arith in
+    let lt = digits_lt ((g.S.Site.bounded c.args.self.now.site.now).to_in _ _ c.requires.goes.opens) h in
+    omega (arith, c.cell_of-target.ensures)
+
+-- it is reached with no less than the cell that the step comes from
+up : (g : given.Over) (c : After-charge_after-charge g) → g.S.Charge.Charge.within c.args.from.here.charge c.charge_after-charge.result ≡ true
+up g c =
+    subst (λ z. g.S.Charge.Charge.within c.args.from.here.charge z ≡ true) (sym c.charge_after-charge.ensures)
+    (step_rises (kind_of g.S.Charge.Charge) (laws_of g) (g.S.Site.meaning c.args.self.now.site.now) c.args.from.here.charge c.args.step.mark (Some c.args.w))
+
 pub offer-requires : goal.offer-requires
 offer-requires g c =
-    let laws = laws_of g in
-    let b = g.S.Site.bounded c.args.self.now.site.now in
-    let m = g.S.Site.meaning c.args.self.now.site.now in
     let r = c.requires.ready.room in
-    let lost : c.loss_after-loss.result ≡ loss_after c.args.step.mark (loss_of c.args.self.now.request c.args.from.at + c.args.w.loss) = c.loss_after-loss.ensures ∙ ap (λ (z : ℕ). loss_after c.args.step.mark (z + c.args.w.loss)) c.loss_of.ensures.same in
-    let low = after_low c.args.self.now.request c.args.step.mark _ _ c.requires.goes.arrives lost in
-    let h : c.loss_after-loss.result < c.args.self.now.request.bound + 1 = omega (arith, low) in
-    let lt : c.args.w.to * (c.args.self.now.request.bound + 1) + c.loss_after-loss.result < m.places * (c.args.self.now.request.bound + 1) = digits_lt (b.to_in _ _ c.requires.goes.opens) h in
-    let same = c.cell_of-target.ensures in
+    let before = (goal.at.offer-requires g c).After-charge_after-charge in
+    let one = one_of g before in
     record {
       inside = omega (arith, r.rows_suffice);
       room = omega (arith, r.queue_suffices);
       ordered = c.requires.ready.ordered;
       agree = c.requires.turn.books.agree;
-      low = λ e q. laws.transitive e c.args.from.here.charge _ (c.requires.turn.expanding.below c.cell_of-target.result e q)
-          (subst (λ z. g.S.Charge.Charge.within c.args.from.here.charge z ≡ true) (sym c.charge_after-charge.ensures) (step_rises (kind_of g.S.Charge.Charge) laws m c.args.from.here.charge c.args.step.mark (Some c.args.w)));
+      low = λ e q. (laws_of g).transitive e c.args.from.here.charge _ (c.requires.turn.expanding.below c.cell_of-target.result e q) (up g before);
     }
 
 pub returns : goal.returns
 returns g c =
     let k = kind_of g.S.Charge.Charge in
     let laws = laws_of g in
+    let before = (goal.at.returns g c).After-charge_after-charge in
     let m = g.S.Site.meaning c.args.self.now.site.now in
-    let b = g.S.Site.bounded c.args.self.now.site.now in
     let turn = c.requires.turn in
     let rows = (cells_of c.args.work.now.cells.now) in
     let rows' = (cells_of c.offer.new.self.cells.now) in
@@ -62,14 +77,10 @@ returns g c =
     let waits' = g.Q.PriorityQueue.waits c.offer.new.self.queue.now in
     let at = c.cell_of-target.result in
     let new : Reached g.row.S-Charge.Denot = record { charge = c.charge_after-charge.result; link = Some (record { from = c.args.from.at; step = c.args.step }); steps = c.args.from.here.steps + 1 } in
-    let lost : c.loss_after-loss.result ≡ loss_after c.args.step.mark (loss_of c.args.self.now.request c.args.from.at + c.args.w.loss) = c.loss_after-loss.ensures ∙ ap (λ (z : ℕ). loss_after c.args.step.mark (z + c.args.w.loss)) c.loss_of.ensures.same in
-    let low = after_low c.args.self.now.request c.args.step.mark _ _ c.requires.goes.arrives lost in
-    let h : c.loss_after-loss.result < c.args.self.now.request.bound + 1 = omega (arith, low) in
-    let lt : c.args.w.to * (c.args.self.now.request.bound + 1) + c.loss_after-loss.result < m.places * (c.args.self.now.request.bound + 1) = digits_lt (b.to_in _ _ c.requires.goes.opens) h in
     let size = length-map c.args.work.now.cells.now (λ r. r.cell) in
-    let inside : at < length rows = omega (arith, c.cell_of-target.ensures, c.requires.ready.room.rows_suffice) in
-    let place = cell_place c.args.self.now.request c.args.w.to _ at low c.cell_of-target.ensures in
-    let loss = cell_loss c.args.self.now.request c.args.w.to _ at low c.cell_of-target.ensures ∙ lost in
+    let inside : at < length rows = omega (arith, one_of g before, c.requires.ready.room.rows_suffice) in
+    let place = cell_place c.args.self.now.request c.args.w.to _ at (low g before) c.cell_of-target.ensures in
+    let loss = cell_loss c.args.self.now.request c.args.w.to _ at (low g before) c.cell_of-target.ensures ∙ lost g before in
     let next : Next k m c.args.self.now.request rows at new = record {
       by = record { from = c.args.from.at; step = c.args.step };
       link = refl;
@@ -82,14 +93,17 @@ returns g c =
       charge = c.charge_after-charge.ensures;
       steps = refl;
     } in
-    let up : g.S.Charge.Charge.within c.args.from.here.charge new.charge ≡ true = subst (λ z. g.S.Charge.Charge.within c.args.from.here.charge z ≡ true) (sym c.charge_after-charge.ensures) (step_rises k laws m c.args.from.here.charge c.args.step.mark (Some c.args.w)) in
     let o = c.offer.ensures.offered in
     record {
-      ready = still_ready c.requires.ready c.offer.ensures.same c.offer.ensures.ordered c.offer.ensures.index;
-      same = c.offer.ensures.same;
-      count = offer_count k laws m c.args.self.now.request rows rows' waits waits' at new inside o;
-      turn = offer_turn k laws m c.args.self.now.request rows rows' waits waits' at new inside o c.args.from.at c.args.from.here turn up next (let f = turn.books.fewer _ _ turn.row in omega arith);
-      keeps = λ p l sum h. offer_covered_on k laws m c.args.self.now.request rows rows' waits waits' at new inside o p l sum h;
+      still = record {
+        rows = record {
+          ready = ready_kept c.requires.ready c.offer.ensures.same c.offer.ensures.ordered c.offer.ensures.index;
+          same = c.offer.ensures.same;
+          count = offer_count k laws m c.args.self.now.request rows rows' waits waits' at new inside o;
+        };
+        turn = offer_turn k laws m c.args.self.now.request rows rows' waits waits' at new inside o c.args.from.at c.args.from.here turn (up g before) next (let f = turn.books.fewer _ _ turn.row in omega arith);
+        keeps = λ p l sum h. offer_covered_on k laws m c.args.self.now.request rows rows' waits waits' at new inside o p l sum h;
+      };
       covered = subst (λ z. Covered k c.args.self.now.request (done_in rows') waits' c.args.w.to (loss_after c.args.step.mark (loss_of c.args.self.now.request c.args.from.at + c.args.w.loss)) z) c.charge_after-charge.ensures
           (offer_covered_at k laws m c.args.self.now.request rows rows' waits waits' at new inside o c.args.w.to _ place loss);
     }

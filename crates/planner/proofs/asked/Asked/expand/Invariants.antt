@@ -4,26 +4,22 @@ use Rattle.std.proofs.Common.{◌≡◌, ℕ, ◌<◌, ◌≤◌, Some}
 use Rattle.site.specs.Whole.{kind_of}
 use Rattle.search.specs.Cells.{place_of}
 use Rattle.search.specs.Search.{Offered}
-use Rattle.search.specs.Rows.{settled_count, done_in}
+use Rattle.search.specs.Rows.{done_in}
 use Rattle.search.specs.Index.{Leaves}
 use Rattle.search.specs.Columns.{cells_of}
-use Rattle.planner.specs.Work.{Ready, SameWork, AtTurn}
+use Rattle.planner.specs.Work.{StillReady, AtTurn}
 use Rattle.search.proofs.Walks.{left_of}
 use Rattle.planner.proofs.asked.Asked.expand.Given as goal
 
 abbrev pub invariant-loop-n : goal.invariant-loop-n
 invariant-loop-n g l =
-    Ready (g.S.Site.meaning l.self.site.now) l.self.request g.Q.PriorityQueue.many g.Q.PriorityQueue.ordered l.work
-    × SameWork g.Q.PriorityQueue.many g.Q.PriorityQueue.lenders l.initial.work l.work
-    × (settled_count (cells_of l.work.cells.now) ≡ settled_count (cells_of l.initial.work.cells.now))
+    StillReady (g.S.Site.meaning l.self.site.now) l.self.request g.Q.PriorityQueue.many g.Q.PriorityQueue.lenders g.Q.PriorityQueue.ordered l.initial.work l.work
     × AtTurn (kind_of g.S.Charge.Charge) (g.S.Site.meaning l.self.site.now) l.self.request g.Q.PriorityQueue.waits l.work l.from.at l.from.here
     × ((i : ℕ) → l.limit ≤ i → i < l.n → Offered (kind_of g.S.Charge.Charge) (g.S.Site.meaning l.self.site.now) l.self.request (done_in (cells_of l.work.cells.now)) (g.Q.PriorityQueue.waits l.work.queue.now) l.from.at l.from.here.charge i)
 
 abbrev pub invariant-loop-after : goal.invariant-loop-after
 invariant-loop-after g l =
-    Ready (g.S.Site.meaning l.self.site.now) l.self.request g.Q.PriorityQueue.many g.Q.PriorityQueue.ordered l.work
-    × SameWork g.Q.PriorityQueue.many g.Q.PriorityQueue.lenders l.initial.work l.work
-    × (settled_count (cells_of l.work.cells.now) ≡ settled_count (cells_of l.initial.work.cells.now))
+    StillReady (g.S.Site.meaning l.self.site.now) l.self.request g.Q.PriorityQueue.many g.Q.PriorityQueue.lenders g.Q.PriorityQueue.ordered l.initial.work l.work
     × AtTurn (kind_of g.S.Charge.Charge) (g.S.Site.meaning l.self.site.now) l.self.request g.Q.PriorityQueue.waits l.work l.from.at l.from.here
     × ((i : ℕ) → left_of l.after ≤ i → i < l.ways → Offered (kind_of g.S.Charge.Charge) (g.S.Site.meaning l.self.site.now) l.self.request (done_in (cells_of l.work.cells.now)) (g.Q.PriorityQueue.waits l.work.queue.now) l.from.at l.from.here.charge i)
     × (left_of l.after ≤ l.limit)

@@ -6,7 +6,7 @@ use Rattle.site.specs.Whole.{kind_of}
 use Rattle.search.specs.Search.{Laws}
 use Rattle.search.proofs.Covers.{no_run}
 use Rattle.search.proofs.Turns.{taken_inside, taken_reached, taken_short, taken_found, settle_turn, settle_count}
-use Rattle.planner.proofs.Kept.{one_more, still_ready}
+use Rattle.planner.proofs.Kept.{one_more, ready_kept}
 use Rattle.planner.proofs.asked.Asked.seek.Given as given
 use Rattle.planner.proofs.asked.Asked.seek.Goals as goal
 
@@ -40,7 +40,7 @@ visit-requires g c =
     let inside = taken_inside _ (laws_of g) _ _ _ _ _ _ _ inv.rest.books took.answer.1 in
     let size = length-map c.loop-at.work.cells.now (λ r. r.cell) in
     record {
-      ready = still_ready inv.ready (record { cells = refl; queue = refl; many_cells = c.settle-here.auto.cells; rows = took.rows }) took.ordered settled.index;
+      ready = ready_kept inv.ready (record { cells = refl; queue = refl; many_cells = c.settle-here.auto.cells; rows = took.rows }) took.ordered settled.index;
       inside = omega (arith, c.settle-here.auto.cells);
       turn = settle_turn _ (laws_of g) _ _ _ _ _ _ _ _ _ inside inv.rest.books took.answer.1 settled.settling inv.rest.searching (c.if-ends.ensures.no refl);
     }
@@ -52,7 +52,7 @@ loop-at-smaller g c =
     let inside = taken_inside _ (laws_of g) _ _ _ _ _ _ _ inv.rest.books taken in
     let short = taken_short _ (laws_of g) _ _ _ _ _ _ _ inv.rest.books taken in
     let more = settle_count _ (laws_of g) _ _ _ _ _ _ _ _ _ inside inv.rest.books taken c.settle-here.ensures.settling in
-    let same = c.visit.ensures.count in
+    let same = c.visit.ensures.still.count in
     let size = length-map c.loop-at.work.cells.now (λ r. r.cell) in
     omega (arith, inv.same.many_cells)
 

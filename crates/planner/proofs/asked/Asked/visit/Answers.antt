@@ -6,7 +6,7 @@ use Rattle.search.specs.Rows.{done_in}
 use Rattle.search.specs.Columns.{cells_of}
 use Rattle.search.proofs.Covers.{skipped}
 use Rattle.search.proofs.Trails.{place_below}
-use Rattle.planner.proofs.Kept.{untouched}
+use Rattle.planner.proofs.Kept.{still_untouched}
 use Rattle.planner.proofs.asked.Asked.visit.Given as given
 use Rattle.planner.proofs.asked.Asked.visit.Goals as goal
 
@@ -26,9 +26,7 @@ returns-then-dominated g c =
     let rows = cells_of c.args.work.now.cells.now in
     let waits = g.Q.PriorityQueue.waits c.args.work.now.queue.now in
     record {
-      ready = c.requires.ready;
-      same = untouched;
-      count = refl;
+      still = still_untouched c.requires.ready;
       rest = record {
         searching = skipped k laws m c.args.self.now.request (done_in rows) waits c.args.from.at c.args.from.here.charge c.requires.turn.expanding (c.if-dominated.ensures refl);
         books = c.requires.turn.books;
