@@ -12,6 +12,7 @@ use Rattle.sheet.specs.Refused.{refusal_text, fault_text}
 use Rattle.sheet.specs.Sheet.{sheet_text}
 use Rattle.sheet.specs.Page.{Asked, PageRefused}
 
+-- nothing for a file that is read, and the line of the fault for one that is refused
 abbrev pub fault_line_of : {X : Type 0} → Result X Fault → List ℕ
 fault_line_of (Ok x) = []
 fault_line_of (Err f) = fault_text f
