@@ -6,8 +6,8 @@
 #![tactic(auto)]
 
 use anyhow::Context;
-use calls::script::{Script, read_script_bytes};
-use input::survey_in;
+use job::script::{Script, read_script_bytes};
+use sheet::print::survey_in;
 use std::{env, fs};
 
 mod print;

@@ -1,10 +1,10 @@
 // What the desk prints.
-use charge::money::Money;
-use input::{print_refusal, print_sheet};
+use subject::money::Money;
+use sheet::print::{print_refusal, print_sheet};
 use job::list::{Answer, Call, Entry};
 use planner::planned::Planned;
-use refusal::Refusal;
-use site::run::{Request, Step};
+use subject::refusal::Refusal;
+use subject::run::{Request, Step};
 use std::{fmt, io};
 use survey::sealed::Sealed;
 

@@ -1,12 +1,12 @@
 // The calls of a script, tried on a job over a survey.
 use crate::print;
-use calls::script::Script;
-use heap::Binary;
+use job::script::Script;
+use tree_queue::heap::Binary;
 use job::replay::replay;
-use owned_rows::OwnedRows;
-use site::site::Site;
+use search::owned::OwnedRows;
+use subject::site::Site;
 use survey::sealed::Sealed;
-use views::money::MoneyView;
+use survey::view::MoneyView;
 
 // Tries the calls, with rows enough for the plan that needs most, and prints what each gave.
 pub fn try_script(rt: &HostRuntime, survey: &Sealed, script: Script) -> anyhow::Result<()> {

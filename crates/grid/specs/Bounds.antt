@@ -3,8 +3,8 @@
 use Rattle.std.specs.Prelude.{◌≡◌, ℕ, ◌+◌, ◌-◌, ◌*◌, ◌/◌, ◌%◌, ◌<◌, ◌≤◌, Bool, true, false, cond, Some, None, Option, ◌==◌, nat_lt, refl}
 use Rattle.std.proofs.Common.{sym, ap, subst, mul-le-mul, div-lt_iff_lt-mul, mod-lt, arith, ltb-true, le-ltb}
 use Rattle.std.proofs.Math.Arith.{digits_lt}
-use Rattle.site.specs.declared.way.Way.{Way}
-use Rattle.site.specs.Meaning.{Bounded}
+use Rattle.subject.specs.declared.way.Way.{Way}
+use Rattle.subject.specs.Sites.{IsBounded}
 use Rattle.grid.specs.declared.grid.FloorGrid.{FloorGrid}
 use Rattle.grid.specs.Floor.{Floor, place_at, neighbour, towards, way_to, floor_site}
 use Rattle.grid.specs.Grids.{floor_of}
@@ -61,7 +61,7 @@ opened f n w e =
 quarter : (n k : ℕ) → n < 4 * k → n / 4 < k
 quarter n k h = omega arith
 
-pub grid_bounded : {C : Type 0} (g : FloorGrid C) → Bounded (floor_site (floor_of g))
+pub grid_bounded : {C : Type 0} (g : FloorGrid C) → IsBounded (floor_site (floor_of g))
 grid_bounded g =
     let all : g.rows * g.columns ≤ 4096 = mul-le-mul g.few_rows g.few_columns in
     record {

@@ -2,8 +2,8 @@
 -- From the place p the ways 4 × p, 4 × p + 1, 4 × p + 2 and 4 × p + 3 go right, left, down and up; a way that would leave
 -- the floor is shut. Stands on what a site is.
 use Rattle.std.specs.Prelude.{ℕ, ◌+◌, ◌-◌, ◌*◌, ◌/◌, ◌%◌, Bool, cond, Some, None, Option, ◌==◌, nat_le, nat_lt}
-use Rattle.site.specs.declared.way.Way.{Way}
-use Rattle.site.specs.Meaning.{SiteMeaning}
+use Rattle.subject.specs.declared.way.Way.{Way}
+use Rattle.subject.specs.Sites.{SiteMeaning}
 use Rattle.grid.specs.declared.grid.floor.Direction.{Direction}
 use Rattle.grid.specs.declared.grid.floor.Direction.TheVariants.{Right, Left, Down, Up}
 

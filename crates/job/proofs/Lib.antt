@@ -1,2 +1,4 @@
 pub mod Shuts
 pub mod Lists
+pub mod Splits
+pub mod Listing

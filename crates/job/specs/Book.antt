@@ -2,8 +2,8 @@
 -- below it. It is empty at set-up. Closing enters a way, reopening strikes one out; a refused call and every plan leave it as
 -- it was. Stands on nothing but the calls and the refusals.
 use Rattle.std.specs.Prelude.{ℕ, Bool, true, false, cond, List, [], ◌∷◌, Ok, Err, Result, ◌==◌, nat_lt}
-use Rattle.refusal.specs.declared.Refusal.{Refusal}
-use Rattle.refusal.specs.declared.Refusal.TheVariants.{NoSuchWay, AlreadyClosed, NotClosed}
+use Rattle.subject.specs.declared.refusal.Refusal.{Refusal}
+use Rattle.subject.specs.declared.refusal.Refusal.TheVariants.{NoSuchWay, AlreadyClosed, NotClosed}
 use Rattle.job.specs.declared.list.Call.{Call}
 use Rattle.job.specs.declared.list.Call.TheVariants.{Close, Reopen, Plan}
 

@@ -1,7 +1,7 @@
 -- A site with more ways shut keeps within the bounds of a site. By cases over whether a way is shut. Stands on Jobs.
 use Rattle.std.specs.Prelude.{◌≡◌, ℕ, Bool, true, false, cond, Some, None, Option, refl}
 use Rattle.std.proofs.Common.{arith}
-use Rattle.site.specs.Meaning.{SiteMeaning, Bounded}
+use Rattle.subject.specs.Sites.{SiteMeaning, IsBounded}
 use Rattle.job.specs.Jobs.{shutting}
 
 only : {A : Type 0} (b : Bool) (o : Option A) (w : A) → cond b None o ≡ Some w → o ≡ Some w
@@ -12,7 +12,7 @@ none_still : {A : Type 0} (b : Bool) (o : Option A) → o ≡ None → cond b No
 none_still true o e = refl
 none_still false o e = e
 
-pub shutting_bounded : {C : Type 0} (m : SiteMeaning C) (book : ℕ → Bool) → Bounded m → Bounded (shutting m book)
+pub shutting_bounded : {C : Type 0} (m : SiteMeaning C) (book : ℕ → Bool) → IsBounded m → IsBounded (shutting m book)
 shutting_bounded m book b = record {
   few_places = b.few_places;
   few_ways = b.few_ways;

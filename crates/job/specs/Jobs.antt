@@ -1,6 +1,6 @@
 -- What a job means: the site below it, with the ways that it has closed shut. Stands on the meaning of a site.
 use Rattle.std.specs.Prelude.{ℕ, Bool, false, cond, None, vec_items, slice_index_or}
-use Rattle.site.specs.Meaning.{SiteMeaning}
+use Rattle.subject.specs.Sites.{SiteMeaning}
 use Rattle.job.specs.declared.job.Job.{Job}
 
 abbrev pub site_below : {S : Type 0} → Job S → S

@@ -3,8 +3,8 @@ ghost use Rattle.std.specs.Prelude.{◌≡◌};
 ghost use Rattle.job.specs.Gives.{of_change, of_plan};
 
 use planner::planned::Planned;
-use refusal::Refusal;
-use site::run::Request;
+use subject::refusal::Refusal;
+use subject::run::Request;
 
 // A call on a job.
 #[derive(Clone, Copy)]

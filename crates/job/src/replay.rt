@@ -1,19 +1,19 @@
 ghost use Rattle.std.specs.Prelude.{◌≡◌, ℕ, MatchResult};
-ghost use Rattle.site.specs.Whole.{kind_of};
-ghost use Rattle.search.specs.Lends.{lent, SameLenders};
+ghost use Rattle.subject.specs.Charges.{kind_of};
+ghost use Rattle.search.specs.Lends.{lent_memory, SameLenders};
 ghost use Rattle.job.specs.Book.{after_call, after_calls};
 ghost use Rattle.job.specs.Jobs.{site_below, closed_by};
-ghost use Rattle.job.specs.Replay.{calls_of, Tried, Tries, Replayed, Untouched};
+ghost use Rattle.job.specs.Replay.{calls_of, CallOutcome, CallsOutcome, ReplayOutcome, IsUntouched};
 
 use crate::job::Job;
 use crate::list::{Answer, Call, Entry};
 use planner::plan::plan;
 use planner::planned::Planned;
-use queue::queue::PriorityQueue;
-use refusal::Refusal;
+use subject::queue::PriorityQueue;
+use subject::refusal::Refusal;
 use search::memory::Memory;
-use site::run::Request;
-use site::site::Site;
+use subject::run::Request;
+use subject::site::Site;
 use std::alloc::{AllocError, Global};
 
 // Tries one call on a job. (A match, and no closures: the listed calls are the caller's data, which stay and are read again.)
@@ -24,7 +24,7 @@ fn attempt<S: Site, Q: PriorityQueue<Charge = S::Charge>>(
 ) -> Answer<S::Charge>
     ensures below { site_below job.new ≡ site_below job.old }
     ensures book { (n : ℕ) → closed_by job.new n ≡ after_call (S.Site.meaning (site_below job.old)).ways (closed_by job.old) call n }
-    ensures tried { Tried (kind_of S.Charge.Charge) Q.PriorityQueue.many (S.Site.meaning (site_below job.old)) (closed_by job.old) (lent memory.old) (lent memory.new) call result }
+    ensures tried { CallOutcome (kind_of S.Charge.Charge) Q.PriorityQueue.many (S.Site.meaning (site_below job.old)) (closed_by job.old) (lent_memory memory.old) (lent_memory memory.new) call result }
     ensures same { SameLenders Q.PriorityQueue.lenders memory.old memory.new }
 {
     match call {
@@ -43,7 +43,7 @@ fn try_all<S: Site, Q: PriorityQueue<Charge = S::Charge>>(
     ensures below { site_below job.new ≡ site_below job.old }
     ensures calls { calls_of entries.new ≡ calls_of entries.old }
     ensures book { (n : ℕ) → closed_by job.new n ≡ after_calls (S.Site.meaning (site_below job.old)).ways (closed_by job.old) (calls_of entries.old) n }
-    ensures listed { Tries (kind_of S.Charge.Charge) Q.PriorityQueue.many (S.Site.meaning (site_below job.old)) (closed_by job.old) (lent memory.old) (lent memory.new) entries.new }
+    ensures listed { CallsOutcome (kind_of S.Charge.Charge) Q.PriorityQueue.many (S.Site.meaning (site_below job.old)) (closed_by job.old) (lent_memory memory.old) (lent_memory memory.new) entries.new }
     ensures same { SameLenders Q.PriorityQueue.lenders memory.old memory.new }
 {
     for entry in entries.iter_mut() {
@@ -61,7 +61,7 @@ pub fn replay<S: Site + Drop, Q: PriorityQueue<Charge = S::Charge>>(
     request: Request,
     memory: &mut Memory<'_, S::Charge, Q>,
 ) -> Result<Result<Planned<S::Charge>, Refusal>, AllocError>
-    ensures replayed { MatchResult result (λ last. Replayed (kind_of S.Charge.Charge) Q.PriorityQueue.many (S.Site.meaning site) request entries.old entries.new (lent memory.old) (lent memory.new) last) (λ _. Untouched entries.old entries.new (lent memory.old) (lent memory.new)) }
+    ensures replayed { MatchResult result (λ last. ReplayOutcome (kind_of S.Charge.Charge) Q.PriorityQueue.many (S.Site.meaning site) request entries.old entries.new (lent_memory memory.old) (lent_memory memory.new) last) (λ _. IsUntouched entries.old entries.new (lent_memory memory.old) (lent_memory memory.new)) }
     ensures same { SameLenders Q.PriorityQueue.lenders memory.old memory.new }
 {
     let mut job = Job::new(heap, site)?;

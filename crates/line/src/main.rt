@@ -2,11 +2,11 @@
 // refused.
 #![tactic(auto)]
 
-use heap::Binary;
-use input::{PAGE, print_fault, print_refusal, print_sheet, read_input, request_in, survey_in};
-use owned_rows::OwnedRows;
+use tree_queue::heap::Binary;
+use sheet::print::{PAGE, print_fault, print_refusal, print_sheet, read_input, request_in, survey_in};
+use search::owned::OwnedRows;
 use relays::plan_for_money;
-use site::run::Request;
+use subject::run::Request;
 use survey::sealed::Sealed;
 
 // The most bytes that are read: six for the request, and then the survey file.

@@ -2,8 +2,8 @@
 -- of their number, of the order in the queue and of the index, each of which a step keeps.
 use Rattle.std.proofs.Common.{ℕ, min, List, sym, refl, ap, ◌∙◌}
 use Rattle.std.specs.Borrow.{GName}
-use Rattle.site.specs.declared.run.Request.{Request}
-use Rattle.site.specs.Meaning.{SiteMeaning}
+use Rattle.subject.specs.declared.run.Request.{Request}
+use Rattle.subject.specs.Sites.{SiteMeaning}
 use Rattle.search.specs.Columns.{SameIndex}
 use Rattle.search.proofs.Tables.{room_kept, indexed_kept}
 use Rattle.planner.specs.declared.work.Work.{Work}

@@ -2,8 +2,8 @@
 ghost use Rattle.std.specs.Prelude.{◌≡◌, ◌+◌, ◌*◌, ◌<◌, ◌≤◌, true, false, ◌≢◌};
 ghost use Rattle.search.specs.Cells.{place_of, loss_of};
 
-use site::run::Request;
-use site::site::Site;
+use subject::run::Request;
+use subject::site::Site;
 
 // A run that is asked for over a site, with a bound that can be asked for.
 #[derive(Drop)]

@@ -1,20 +1,20 @@
 ghost use Rattle.std.specs.Prelude.{◌+◌, ◌<◌, length, Some};
-ghost use Rattle.site.specs.Runs.{after_way, loss_after, Goes};
-ghost use Rattle.site.specs.Whole.{kind_of};
+ghost use Rattle.subject.specs.Runs.{after_way, loss_after, IsStepOver};
+ghost use Rattle.subject.specs.Charges.{kind_of};
 ghost use Rattle.search.specs.Cells.{place_of, loss_of};
-ghost use Rattle.search.specs.Search.{Covered, Offered};
+ghost use Rattle.search.specs.Search.{IsCovered, IsOffered};
 ghost use Rattle.search.specs.Rows.{done_in};
 ghost use Rattle.search.specs.Columns.{cells_of};
 ghost use Rattle.planner.specs.Work.{Ready, StillReady, StillAtTurn, AtTurn, AtRest};
 
 use crate::asked::Asked;
 use crate::work::{Settled, Work};
-use queue::queue::PriorityQueue;
+use subject::queue::PriorityQueue;
 use search::cell::{Link, Reached};
 use search::step::{charge_after, loss_after, markable, within_bound};
-use site::run::Step;
-use site::site::Site;
-use site::way::Way;
+use subject::run::Step;
+use subject::site::Site;
+use subject::way::Way;
 
 impl<S: Site> Asked<'_, S> {
     // Offers the cell to which a lawful step over the way `w` leads from a settled cell.
@@ -27,9 +27,9 @@ impl<S: Site> Asked<'_, S> {
     )
         requires ready { Ready (S.Site.meaning self.now.site.now) self.now.request Q.PriorityQueue.many Q.PriorityQueue.ordered work.old }
         requires turn { AtTurn (kind_of S.Charge.Charge) (S.Site.meaning self.now.site.now) self.now.request Q.PriorityQueue.waits work.old from.at from.here }
-        requires goes { Goes (S.Site.meaning self.now.site.now) self.now.request (place_of self.now.request from.at) (loss_of self.now.request from.at) step w }
+        requires goes { IsStepOver (S.Site.meaning self.now.site.now) self.now.request (place_of self.now.request from.at) (loss_of self.now.request from.at) step w }
         ensures still { StillAtTurn (kind_of S.Charge.Charge) (S.Site.meaning self.now.site.now) self.now.request Q.PriorityQueue.many Q.PriorityQueue.lenders Q.PriorityQueue.ordered Q.PriorityQueue.waits work.old work.new from.at from.here }
-        ensures covered { Covered (kind_of S.Charge.Charge) self.now.request (done_in (cells_of work.new.cells.now)) (Q.PriorityQueue.waits work.new.queue.now) w.to (loss_after step.mark (loss_of self.now.request from.at + w.loss)) (after_way (kind_of S.Charge.Charge) (S.Site.meaning self.now.site.now) from.here.charge step.mark (Some w)) }
+        ensures covered { IsCovered (kind_of S.Charge.Charge) self.now.request (done_in (cells_of work.new.cells.now)) (Q.PriorityQueue.waits work.new.queue.now) w.to (loss_after step.mark (loss_of self.now.request from.at + w.loss)) (after_way (kind_of S.Charge.Charge) (S.Site.meaning self.now.site.now) from.here.charge step.mark (Some w)) }
     {
         let Settled { at, here } = from;
         let loss = loss_after(step.mark, self.loss_of(at) + w.loss as usize);
@@ -55,7 +55,7 @@ impl<S: Site> Asked<'_, S> {
         requires ready { Ready (S.Site.meaning self.now.site.now) self.now.request Q.PriorityQueue.many Q.PriorityQueue.ordered work.old }
         requires turn { AtTurn (kind_of S.Charge.Charge) (S.Site.meaning self.now.site.now) self.now.request Q.PriorityQueue.waits work.old from.at from.here }
         ensures still { StillAtTurn (kind_of S.Charge.Charge) (S.Site.meaning self.now.site.now) self.now.request Q.PriorityQueue.many Q.PriorityQueue.lenders Q.PriorityQueue.ordered Q.PriorityQueue.waits work.old work.new from.at from.here }
-        ensures offered { Offered (kind_of S.Charge.Charge) (S.Site.meaning self.now.site.now) self.now.request (done_in (cells_of work.new.cells.now)) (Q.PriorityQueue.waits work.new.queue.now) from.at from.here.charge n }
+        ensures offered { IsOffered (kind_of S.Charge.Charge) (S.Site.meaning self.now.site.now) self.now.request (done_in (cells_of work.new.cells.now)) (Q.PriorityQueue.waits work.new.queue.now) from.at from.here.charge n }
     {
         if let Some(w) = self.site.way(n) {
             if w.from != self.place_of(from.at) {

@@ -1,10 +1,10 @@
 // The index of the ways by the place that they leave, kept inside the rows of working memory.
 ghost use Rattle.std.specs.Prelude.{◌≡◌, ℕ, ◌+◌, ◌<◌, ◌≤◌, min, length, slice_index_or, slice_set};
 ghost use Rattle.search.specs.Columns.{cells_of, heads_of, nexts_of};
-ghost use Rattle.search.specs.Index.{Indexed};
+ghost use Rattle.search.specs.Index.{IsIndexed};
 
 use search::cell::Row;
-use site::site::Site;
+use subject::site::Site;
 
 // Puts the way `n` before the ways that leave the place `at`.
 fn put_first<C>(cells: &mut [Row<C>], at: usize, n: usize)
@@ -22,9 +22,9 @@ fn put_first<C>(cells: &mut [Row<C>], at: usize, n: usize)
 fn enter_way<S: Site>(site: &S, cells: &mut [Row<S::Charge>], n: usize)
     requires inside { n < length cells.old }
     requires places { (S.Site.meaning site.now).places ≤ length cells.old }
-    requires indexed { Indexed (S.Site.meaning site.now) (heads_of cells.old) (nexts_of cells.old) n }
+    requires indexed { IsIndexed (S.Site.meaning site.now) (heads_of cells.old) (nexts_of cells.old) n }
     ensures cells { cells_of cells.new ≡ cells_of cells.old }
-    ensures indexed { Indexed (S.Site.meaning site.now) (heads_of cells.new) (nexts_of cells.new) (n + 1) }
+    ensures indexed { IsIndexed (S.Site.meaning site.now) (heads_of cells.new) (nexts_of cells.new) (n + 1) }
 {
     if let Some(w) = site.way(n) {
         put_first(cells, w.from, n);
@@ -37,7 +37,7 @@ pub fn build<S: Site>(site: &S, cells: &mut [Row<S::Charge>])
     requires places { (S.Site.meaning site.now).places ≤ length cells.old }
     requires empty { (p : ℕ) → slice_index_or (heads_of cells.old) p None ≡ None }
     ensures cells { cells_of cells.new ≡ cells_of cells.old }
-    ensures indexed { Indexed (S.Site.meaning site.now) (heads_of cells.new) (nexts_of cells.new) (min (S.Site.meaning site.now).ways (length cells.old)) }
+    ensures indexed { IsIndexed (S.Site.meaning site.now) (heads_of cells.new) (nexts_of cells.new) (min (S.Site.meaning site.now).ways (length cells.old)) }
 {
     let limit = site.ways().min(cells.len());
     for n in 0..limit {

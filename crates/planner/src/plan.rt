@@ -1,20 +1,20 @@
 ghost use Rattle.std.specs.Prelude.{◌≡◌, ◌<◌, ◌≤◌, length, MatchResult};
-ghost use Rattle.refusal.specs.declared.Refusal.TheVariants.{NoRun};
-ghost use Rattle.site.specs.Whole.{kind_of};
-ghost use Rattle.search.specs.Rows.{Room};
-ghost use Rattle.search.specs.Lends.{lent, SameLenders};
-ghost use Rattle.planner.specs.Outcome.{Handed, NoLawful, Outcome};
+ghost use Rattle.subject.specs.declared.refusal.Refusal.TheVariants.{NoRun};
+ghost use Rattle.subject.specs.Charges.{kind_of};
+ghost use Rattle.search.specs.Rows.{RoomSuffices};
+ghost use Rattle.search.specs.Lends.{lent_memory, SameLenders};
+ghost use Rattle.planner.specs.Outcome.{RunHandedOut, NoLawfulRun, PlanOutcome};
 ghost use Rattle.planner.specs.Work.{SameWork};
 
 use crate::asked::Asked;
 use crate::planned::Planned;
 use crate::work::Work;
-use queue::queue::PriorityQueue;
-use refusal::Refusal;
+use subject::queue::PriorityQueue;
+use subject::refusal::Refusal;
 use search::check::rows_needed;
 use search::memory::Memory;
-use site::run::{Request, Step};
-use site::site::Site;
+use subject::run::{Request, Step};
+use subject::site::Site;
 
 impl<S: Site> Asked<'_, S> {
     // Searches for a least run where there is room for every cell, and writes it.
@@ -23,11 +23,11 @@ impl<S: Site> Asked<'_, S> {
         work: &mut Work<'_, '_, S::Charge, Q>,
         run: &mut [Step],
     ) -> Result<Planned<S::Charge>, Refusal>
-        requires room { Room (S.Site.meaning self.now.site.now) self.now.request (length work.old.cells.now) (Q.PriorityQueue.many work.old.queue.now) }
+        requires room { RoomSuffices (S.Site.meaning self.now.site.now) self.now.request (length work.old.cells.now) (Q.PriorityQueue.many work.old.queue.now) }
         requires start { self.now.request.start < (S.Site.meaning self.now.site.now).places }
         requires steps { length work.old.cells.now ≤ length run.old }
         ensures same { SameWork Q.PriorityQueue.many Q.PriorityQueue.lenders work.old work.new }
-        ensures answer { MatchResult result (λ p. Handed (kind_of S.Charge.Charge) (S.Site.meaning self.now.site.now) self.now.request run.old run.new p) (λ e. (e ≡ NoRun) × NoLawful (S.Site.meaning self.now.site.now) self.now.request × (run.new ≡ run.old)) }
+        ensures answer { MatchResult result (λ p. RunHandedOut (kind_of S.Charge.Charge) (S.Site.meaning self.now.site.now) self.now.request run.old run.new p) (λ e. (e ≡ NoRun) × NoLawfulRun (S.Site.meaning self.now.site.now) self.now.request × (run.new ≡ run.old)) }
     {
         self.begin(work);
         let last = self.seek(work).ok_or(Refusal::NoRun)?;
@@ -41,7 +41,7 @@ pub fn plan<S: Site, Q: PriorityQueue<Charge = S::Charge>>(
     request: Request,
     memory: &mut Memory<'_, S::Charge, Q>,
 ) -> Result<Planned<S::Charge>, Refusal>
-    ensures outcome { Outcome (kind_of S.Charge.Charge) Q.PriorityQueue.many (S.Site.meaning site.now) request (lent memory.old) (lent memory.new) result }
+    ensures outcome { PlanOutcome (kind_of S.Charge.Charge) Q.PriorityQueue.many (S.Site.meaning site.now) request (lent_memory memory.old) (lent_memory memory.new) result }
     ensures same { SameLenders Q.PriorityQueue.lenders memory.old memory.new }
 {
     let rows = rows_needed(

@@ -1,14 +1,14 @@
 ghost use Rattle.std.specs.Prelude.{MatchOption};
-ghost use Rattle.site.specs.Whole.{kind_of};
-ghost use Rattle.search.specs.Rows.{Found};
+ghost use Rattle.subject.specs.Charges.{kind_of};
+ghost use Rattle.search.specs.Rows.{EndTaken};
 ghost use Rattle.search.specs.Columns.{cells_of};
-ghost use Rattle.planner.specs.Outcome.{NoLawful};
+ghost use Rattle.planner.specs.Outcome.{NoLawfulRun};
 ghost use Rattle.planner.specs.Work.{Ready, SameWork, AtRest};
 
 use crate::asked::Asked;
 use crate::work::{Settled, Work, settle};
-use queue::queue::PriorityQueue;
-use site::site::Site;
+use subject::queue::PriorityQueue;
+use subject::site::Site;
 
 impl<S: Site> Asked<'_, S> {
     // Takes a lowest waiting cell again and again until one of the end is taken, which it answers, or none waits: then there
@@ -20,7 +20,7 @@ impl<S: Site> Asked<'_, S> {
         requires ready { Ready (S.Site.meaning self.now.site.now) self.now.request Q.PriorityQueue.many Q.PriorityQueue.ordered work.old }
         requires rest { AtRest (kind_of S.Charge.Charge) (S.Site.meaning self.now.site.now) self.now.request Q.PriorityQueue.waits work.old }
         ensures same { SameWork Q.PriorityQueue.many Q.PriorityQueue.lenders work.old work.new }
-        ensures answer { MatchOption result (NoLawful (S.Site.meaning self.now.site.now) self.now.request) (λ x. Found (kind_of S.Charge.Charge) (S.Site.meaning self.now.site.now) self.now.request (cells_of work.new.cells.now) x) }
+        ensures answer { MatchOption result (NoLawfulRun (S.Site.meaning self.now.site.now) self.now.request) (λ x. EndTaken (kind_of S.Charge.Charge) (S.Site.meaning self.now.site.now) self.now.request (cells_of work.new.cells.now) x) }
     {
         while let Some((at, _)) = work.queue.take() {
             if self.ends(at) {

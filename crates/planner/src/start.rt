@@ -1,16 +1,16 @@
 ghost use Rattle.std.specs.Prelude.{◌≡◌, ◌<◌, length, replicate};
-ghost use Rattle.site.specs.Whole.{kind_of};
-ghost use Rattle.search.specs.Rows.{Room};
+ghost use Rattle.subject.specs.Charges.{kind_of};
+ghost use Rattle.search.specs.Rows.{RoomSuffices};
 ghost use Rattle.search.specs.Columns.{blank_row};
 ghost use Rattle.planner.specs.Work.{Ready, SameWork, AtRest};
 
 use crate::asked::Asked;
 use crate::index::build;
 use crate::work::Work;
-use charge::kind::Charge;
-use queue::queue::PriorityQueue;
+use subject::charge::Charge;
+use subject::queue::PriorityQueue;
 use search::cell::{Reached, Row};
-use site::site::Site;
+use subject::site::Site;
 
 // Makes every row blank, whatever it held.
 fn clear<C: Charge>(cells: &mut [Row<C>])
@@ -24,7 +24,7 @@ fn clear<C: Charge>(cells: &mut [Row<C>])
 impl<S: Site> Asked<'_, S> {
     // Prepares rows and queue: the ways are indexed, and the start's cell with no loss waits alone, with the charge nothing.
     pub fn begin<Q: PriorityQueue<Charge = S::Charge>>(&self, work: &mut Work<'_, '_, S::Charge, Q>)
-        requires room { Room (S.Site.meaning self.now.site.now) self.now.request (length work.old.cells.now) (Q.PriorityQueue.many work.old.queue.now) }
+        requires room { RoomSuffices (S.Site.meaning self.now.site.now) self.now.request (length work.old.cells.now) (Q.PriorityQueue.many work.old.queue.now) }
         requires start { self.now.request.start < (S.Site.meaning self.now.site.now).places }
         ensures ready { Ready (S.Site.meaning self.now.site.now) self.now.request Q.PriorityQueue.many Q.PriorityQueue.ordered work.new }
         ensures same { SameWork Q.PriorityQueue.many Q.PriorityQueue.lenders work.old work.new }

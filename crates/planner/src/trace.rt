@@ -1,17 +1,17 @@
 ghost use Rattle.std.specs.Prelude.{◌≡◌, ◌<◌, ◌≤◌, length, take, drop, Some, IsSome, slice_set};
-ghost use Rattle.site.specs.Runs.{Least, NoneTwice};
-ghost use Rattle.site.specs.Whole.{kind_of};
-ghost use Rattle.search.specs.Rows.{Found, reached_in};
+ghost use Rattle.subject.specs.Runs.{IsLeast, NoneTwice};
+ghost use Rattle.subject.specs.Charges.{kind_of};
+ghost use Rattle.search.specs.Rows.{EndTaken, reached_in};
 ghost use Rattle.search.specs.Columns.{cells_of};
 
 use crate::asked::Asked;
 use crate::planned::Planned;
 use crate::work::{Work, reached_at};
-use charge::kind::Charge;
-use queue::queue::PriorityQueue;
+use subject::charge::Charge;
+use subject::queue::PriorityQueue;
 use search::cell::{Link, Reached, Row};
-use site::run::Step;
-use site::site::Site;
+use subject::run::Step;
+use subject::site::Site;
 
 // Goes back over a link: writes its step at the place `at`, and answers how the cell that it was taken from was reached.
 fn one_back<C: Charge>(cells: &[Row<C>], link: Link, run: &mut [Step], at: usize) -> Reached<C>
@@ -33,10 +33,10 @@ impl<S: Site> Asked<'_, S> {
         last: usize,
         run: &mut [Step],
     ) -> Planned<S::Charge>
-        requires found { Found (kind_of S.Charge.Charge) (S.Site.meaning self.now.site.now) self.now.request (cells_of work.now.cells.now) last }
+        requires found { EndTaken (kind_of S.Charge.Charge) (S.Site.meaning self.now.site.now) self.now.request (cells_of work.now.cells.now) last }
         requires room { length work.now.cells.now ≤ length run.old }
         ensures steps { result.steps ≤ length run.old }
-        ensures least { Least (kind_of S.Charge.Charge) (S.Site.meaning self.now.site.now) self.now.request (take result.steps run.new) result.total }
+        ensures least { IsLeast (kind_of S.Charge.Charge) (S.Site.meaning self.now.site.now) self.now.request (take result.steps run.new) result.total }
         ensures once { NoneTwice (S.Site.meaning self.now.site.now) self.now.request.start 0 (take result.steps run.new) }
         ensures behind { drop result.steps run.new ≡ drop result.steps run.old }
     {

@@ -1,16 +1,16 @@
 ghost use Rattle.std.specs.Prelude.{◌≡◌, ◌<◌, true, length, IsSome};
-ghost use Rattle.site.specs.Whole.{kind_of};
-ghost use Rattle.search.specs.Search.{Dominated};
+ghost use Rattle.subject.specs.Charges.{kind_of};
+ghost use Rattle.search.specs.Search.{IsDominated};
 ghost use Rattle.search.specs.Rows.{settled_as, done_in};
 ghost use Rattle.search.specs.Columns.{cells_of};
 ghost use Rattle.planner.specs.Work.{Ready, StillReady, AtTurn, AtRest};
 
 use crate::asked::Asked;
 use crate::work::{Settled, Work, set_hint};
-use charge::kind::Charge;
-use queue::queue::PriorityQueue;
+use subject::charge::Charge;
+use subject::queue::PriorityQueue;
 use search::cell::Cell;
-use site::site::Site;
+use subject::site::Site;
 
 // Whether a cell is settled.
 fn is_settled<C: Charge>(cell: Cell<C>) -> bool
@@ -29,7 +29,7 @@ impl<S: Site> Asked<'_, S> {
         at: usize,
     ) -> bool
         requires { at < length work.now.cells.now }
-        ensures { result ≡ true → Dominated self.now.request (done_in (cells_of work.now.cells.now)) at }
+        ensures { result ≡ true → IsDominated self.now.request (done_in (cells_of work.now.cells.now)) at }
     {
         let place = self.place_of(at);
         let Some(hint) = work.cells[place].hint else {

@@ -1,13 +1,13 @@
 // The rows in which a search works, and what it does to one cell.
 ghost use Rattle.std.specs.Prelude.{◌≡◌, ◌<◌, true, length, Some, IsSome, slice_set};
-ghost use Rattle.site.specs.Whole.{kind_of};
-ghost use Rattle.queue.specs.Waits.{Put};
-ghost use Rattle.search.specs.Rows.{Agree, Offering, Settling, improves, reached_in, done_in};
+ghost use Rattle.subject.specs.Charges.{kind_of};
+ghost use Rattle.subject.specs.Queues.{IsPut};
+ghost use Rattle.search.specs.Rows.{QueueAgrees, OfferOutcome, SettleOutcome, improves, reached_in, done_in};
 ghost use Rattle.search.specs.declared.cell.Cell.TheVariants.{Waiting};
 ghost use Rattle.search.specs.Columns.{cells_of, SameIndex};
 
-use charge::kind::Charge;
-use queue::queue::PriorityQueue;
+use subject::charge::Charge;
+use subject::queue::PriorityQueue;
 use search::cell::{Cell, Reached, Row};
 
 // Cell rows and a queue. (What holds of them between two steps of a search is told by clauses and no ghost fields: it speaks of
@@ -56,7 +56,7 @@ impl<C: Charge, Q: PriorityQueue<Charge = C>> Work<'_, '_, C, Q> {
         ensures same { SameWork Q.PriorityQueue.many Q.PriorityQueue.lenders self.old self.new }
         ensures index { SameIndex self.old.cells.now self.new.cells.now }
         ensures cells { cells_of self.new.cells.now ≡ slice_set (cells_of self.old.cells.now) at (Waiting new) }
-        ensures put { Put (Q.PriorityQueue.waits self.old.queue.now) (Q.PriorityQueue.waits self.new.queue.now) at new.charge }
+        ensures put { IsPut (Q.PriorityQueue.waits self.old.queue.now) (Q.PriorityQueue.waits self.new.queue.now) at new.charge }
     {
         self.cells[at].cell = Cell::Waiting(new);
         let _ = self.queue.put(at, new.charge);
@@ -67,12 +67,12 @@ impl<C: Charge, Q: PriorityQueue<Charge = C>> Work<'_, '_, C, Q> {
         requires inside { at < length self.old.cells.now }
         requires room { at < Q.PriorityQueue.many self.old.queue.now }
         requires ordered { Q.PriorityQueue.ordered self.old.queue.now }
-        requires agree { Agree (cells_of self.old.cells.now) (Q.PriorityQueue.waits self.old.queue.now) }
+        requires agree { QueueAgrees (cells_of self.old.cells.now) (Q.PriorityQueue.waits self.old.queue.now) }
         requires low { (e : C) → done_in (cells_of self.old.cells.now) at ≡ Some e → C.Charge.within e new.charge ≡ true }
         ensures ordered { Q.PriorityQueue.ordered self.new.queue.now }
         ensures same { SameWork Q.PriorityQueue.many Q.PriorityQueue.lenders self.old self.new }
         ensures index { SameIndex self.old.cells.now self.new.cells.now }
-        ensures offered { Offering (kind_of C.Charge) (cells_of self.old.cells.now) (cells_of self.new.cells.now) (Q.PriorityQueue.waits self.old.queue.now) (Q.PriorityQueue.waits self.new.queue.now) at new }
+        ensures offered { OfferOutcome (kind_of C.Charge) (cells_of self.old.cells.now) (cells_of self.new.cells.now) (Q.PriorityQueue.waits self.old.queue.now) (Q.PriorityQueue.waits self.new.queue.now) at new }
     {
         if better(self.cells[at].cell, new.charge) {
             self.wait(at, new);
@@ -85,7 +85,7 @@ pub fn settle<C: Charge>(cells: &mut [Row<C>], at: usize) -> Reached<C>
     requires inside { at < length cells.old }
     requires reached { IsSome (reached_in (cells_of cells.old) at) }
     ensures index { SameIndex cells.old cells.new }
-    ensures settling { Settling (cells_of cells.old) (cells_of cells.new) at result }
+    ensures settling { SettleOutcome (cells_of cells.old) (cells_of cells.new) at result }
 {
     let here = reached_at(cells, at);
     cells[at].cell = Cell::Settled(here);

@@ -4,9 +4,9 @@
 // their high byte first. Steps that are cut short are refused like a file cut short at its start.
 #![tactic(auto)]
 
-use input::{PAGE, print_fault, print_sheet, read_input, request_in, survey_in};
-use refusal::{Fault, Refusal};
-use site::run::{Request, Step};
+use sheet::print::{PAGE, print_fault, print_sheet, read_input, request_in, survey_in};
+use subject::refusal::{Fault, Refusal};
+use subject::run::{Request, Step};
 use std::alloc::{AllocError, Global};
 
 // The most bytes that are read: the request, 65,535 steps of three bytes with their number, the longest survey file, and one byte

@@ -5,13 +5,13 @@ use lib.Arith.{digits_div, digits_mod, digits_lt}
 use Rattle.std.specs.List.{AllByRecursion, IsDistinct, list_any}
 use Rattle.std.proofs.lemmas.Bool.{eqb-true, ne_eqb, or_cases}
 use Rattle.std.proofs.lemmas.Map.Steps.{length-le_from_distinct_below}
-use Rattle.site.specs.declared.run.Step.{Step}
-use Rattle.site.specs.declared.run.Request.{Request}
-use Rattle.site.specs.Meaning.{SiteMeaning, Bounded}
-use Rattle.site.specs.Runs.{loss_after, Lawful, Run, place_behind, loss_behind, Avoids, NoneTwice}
+use Rattle.subject.specs.declared.run.Step.{Step}
+use Rattle.subject.specs.declared.run.Request.{Request}
+use Rattle.subject.specs.Sites.{SiteMeaning, IsBounded}
+use Rattle.subject.specs.Runs.{loss_after, IsLawful, IsRun, place_behind, loss_behind, IsAvoided, NoneTwice}
 use Rattle.search.proofs.Trails.{after_low}
 
-module _ {C : Type 0} (m : SiteMeaning C) (bounded : Bounded m) (q : Request) where
+module _ {C : Type 0} (m : SiteMeaning C) (bounded : IsBounded m) (q : Request) where
   -- the number of a place with a loss, and the numbers that a run leaves
   abbrev cell : ℕ → ℕ → ℕ
   cell p l = p * (q.bound + 1) + l
@@ -24,23 +24,23 @@ module _ {C : Type 0} (m : SiteMeaning C) (bounded : Bounded m) (q : Request) wh
   record Leads (p l : ℕ) (s : Step) (rest : List Step) : Type 0 where
     place : p < m.places
     low : loss_behind (m.way s.way) s.mark l ≤ q.bound
-    lawful : Lawful m q (place_behind (m.way s.way)) (loss_behind (m.way s.way) s.mark l) rest
+    lawful : IsLawful m q (place_behind (m.way s.way)) (loss_behind (m.way s.way) s.mark l) rest
 
-  leads : (p l : ℕ) (s : Step) (rest : List Step) → Lawful m q p l (s ∷ rest) → Leads p l s rest
+  leads : (p l : ℕ) (s : Step) (rest : List Step) → IsLawful m q p l (s ∷ rest) → Leads p l s rest
   leads p l s rest (w, goes, on) =
       let there : w.to ≡ place_behind (m.way s.way) = sym (ap place_behind goes.opens) in
       let lost : loss_after s.mark (l + w.loss) ≡ loss_behind (m.way s.way) s.mark l = sym (ap (λ o. loss_behind o s.mark l) goes.opens) in
       record {
         place = subst (λ (x : ℕ). x < m.places) goes.leaves (bounded.from_in s.way w goes.opens);
         low = subst (λ (x : ℕ). x ≤ q.bound) lost (after_low q s.mark _ _ goes.arrives refl);
-        lawful = subst (λ (x : ℕ). Lawful m q (place_behind (m.way s.way)) x rest) lost (subst (λ (x : ℕ). Lawful m q x (loss_after s.mark (l + w.loss)) rest) there on);
+        lawful = subst (λ (x : ℕ). IsLawful m q (place_behind (m.way s.way)) x rest) lost (subst (λ (x : ℕ). IsLawful m q x (loss_after s.mark (l + w.loss)) rest) there on);
       }
 
   left_length : (p l : ℕ) (run : List Step) → length (left p l run) ≡ length run
   left_length p l [] = refl
   left_length p l (s ∷ rest) = ap suc (left_length (place_behind (m.way s.way)) (loss_behind (m.way s.way) s.mark l) rest)
 
-  left_below : (p l : ℕ) (run : List Step) → l ≤ q.bound → Lawful m q p l run → (y : ℕ) → list_any (eqb y) (left p l run) ≡ true → y < m.places * (q.bound + 1)
+  left_below : (p l : ℕ) (run : List Step) → l ≤ q.bound → IsLawful m q p l run → (y : ℕ) → list_any (eqb y) (left p l run) ≡ true → y < m.places * (q.bound + 1)
   left_below p l [] low on y among = absurd (let z : ◌≡◌ {A = ℕ} 0 1 = cc in omega arith)
   left_below p l (s ∷ rest) low on y among =
       let next = leads p l s rest on in
@@ -58,7 +58,7 @@ module _ {C : Type 0} (m : SiteMeaning C) (bounded : Bounded m) (q : Request) wh
         sym (digits_mod p short) ∙ ap (λ (x : ℕ). x % (q.bound + 1)) e ∙ digits_mod a short',
       )
 
-  left_avoids : (a b p l : ℕ) (run : List Step) → b ≤ q.bound → l ≤ q.bound → Lawful m q p l run → Avoids m a b p l run → AllByRecursion (λ y. eqb (cell a b) y ≡ false) (left p l run)
+  left_avoids : (a b p l : ℕ) (run : List Step) → b ≤ q.bound → l ≤ q.bound → IsLawful m q p l run → IsAvoided m a b p l run → AllByRecursion (λ y. eqb (cell a b) y ≡ false) (left p l run)
   left_avoids a b p l [] low' low on h = tt
   left_avoids a b p l (s ∷ rest) low' low on h =
       let next = leads p l s rest on in (
@@ -66,14 +66,14 @@ module _ {C : Type 0} (m : SiteMeaning C) (bounded : Bounded m) (q : Request) wh
         left_avoids a b (place_behind (m.way s.way)) (loss_behind (m.way s.way) s.mark l) rest low' next.low next.lawful h.1,
       )
 
-  left_distinct : (p l : ℕ) (run : List Step) → l ≤ q.bound → Lawful m q p l run → NoneTwice m p l run → IsDistinct eqb (left p l run)
+  left_distinct : (p l : ℕ) (run : List Step) → l ≤ q.bound → IsLawful m q p l run → NoneTwice m p l run → IsDistinct eqb (left p l run)
   unfolding IsDistinct
   left_distinct p l [] low on h = tt
   left_distinct p l (s ∷ rest) low on h =
       let next = leads p l s rest on in
       (left_avoids p l (place_behind (m.way s.way)) (loss_behind (m.way s.way) s.mark l) rest low next.low next.lawful h.0, left_distinct (place_behind (m.way s.way)) (loss_behind (m.way s.way) s.mark l) rest next.low next.lawful h.1)
 
-  pub few_steps : (run : List Step) → Run m q run → NoneTwice m q.start 0 run → length run ≤ m.places * (q.bound + 1)
+  pub few_steps : (run : List Step) → IsRun m q run → NoneTwice m q.start 0 run → length run ≤ m.places * (q.bound + 1)
   few_steps run on h =
       let same = left_length q.start 0 run in
       let few = length-le_from_distinct_below (left q.start 0 run) (m.places * (q.bound + 1)) (left_distinct q.start 0 run (omega arith) on h) (left_below q.start 0 run (omega arith) on) in

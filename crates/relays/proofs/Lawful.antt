@@ -4,17 +4,17 @@
 use Rattle.std.proofs.Common.{◌≡◌, ℕ, ◌+◌, ◌≤◌, Bool, true, false, cond, List, [], ◌∷◌, Some, None, sum, Option, sym, refl, ap, ◌∙◌, subst, arith}
 use Rattle.std.specs.List.{slice_get, AllByRecursion as All}
 use Rattle.std.proofs.lemmas.List.Sums.{sum_by-cons}
-use Rattle.charge.specs.declared.money.Money.{Money}
-use Rattle.charge.specs.Moneys.{of_cents}
+use Rattle.subject.specs.declared.money.Money.{Money}
+use Rattle.subject.specs.Moneys.{of_cents}
 use Rattle.survey.specs.declared.entry.Place.{Place}
 use Rattle.survey.specs.Contents.{Contents}
-use Rattle.site.specs.declared.way.Way.{Way}
-use Rattle.site.specs.declared.run.Step.{Step}
-use Rattle.site.specs.declared.run.Request.{Request}
-use Rattle.site.specs.Runs.{Markable, MarkAllowed, loss_after, Lawful, Run}
+use Rattle.subject.specs.declared.way.Way.{Way}
+use Rattle.subject.specs.declared.run.Step.{Step}
+use Rattle.subject.specs.declared.run.Request.{Request}
+use Rattle.subject.specs.Runs.{IsMarkable, IsMarkAllowed, loss_after, IsLawful, IsRun}
 use Rattle.search.proofs.Trails.{after_low}
-use Rattle.views.specs.SurveySite.{money_site, way_of, open_way, repeater_of, priced_as, entry_loss}
-use Rattle.views.specs.Bounds.{entered}
+use Rattle.survey.specs.SurveySite.{money_site, way_of, open_way, repeater_of, priced_as, entry_loss}
+use Rattle.survey.specs.SiteBounds.{entered}
 use Rattle.relays.specs.Problem.{Path, loss_at, arrival_at, loss, arrival, relays, extended, stretches, entered_at, RelayStands, Feasible}
 
 pub sum_front : (x : ℕ) (xs : List ℕ) → sum (x ∷ xs) ≡ x + sum xs
@@ -64,12 +64,12 @@ relay_entered None cents h = let z : ◌≡◌ {A = ℕ} 0 1 = cc in absurd (ome
 relay_entered (Some p) cents h = ap (priced_as of_cents) h
 
 module _ (c : Contents) (q : Request) where
-  marked_stands : (p : ℕ) → Markable (money_site c) q p → RelayStands c q p
+  marked_stands : (p : ℕ) → IsMarkable (money_site c) q p → RelayStands c q p
   marked_stands p k =
       let r = entered_relay (slice_get c.places p) k.repeater k.stands in
       record { cents = r.0; entered = r.1; not_start = k.not_start; not_end = k.not_end }
 
-  stands_marked : (p : ℕ) → RelayStands c q p → Markable (money_site c) q p
+  stands_marked : (p : ℕ) → RelayStands c q p → IsMarkable (money_site c) q p
   stands_marked p k = record {
     repeater = of_cents k.cents;
     stands = relay_entered (slice_get c.places p) k.cents k.entered;
@@ -78,11 +78,11 @@ module _ (c : Contents) (q : Request) where
   }
 
   -- the repeaters of a path, with one more at its front or without
-  relays_on : (mark : Bool) (p : ℕ) (ps : List ℕ) → MarkAllowed (money_site c) q mark p → All (RelayStands c q) ps → All (RelayStands c q) (cond mark (p ∷ ps) ps)
+  relays_on : (mark : Bool) (p : ℕ) (ps : List ℕ) → IsMarkAllowed (money_site c) q mark p → All (RelayStands c q) ps → All (RelayStands c q) (cond mark (p ∷ ps) ps)
   relays_on true p ps k all = (marked_stands p k, all)
   relays_on false p ps k all = all
 
-  relays_back : (mark : Bool) (p : ℕ) (ps : List ℕ) → All (RelayStands c q) (cond mark (p ∷ ps) ps) → MarkAllowed (money_site c) q mark p × All (RelayStands c q) ps
+  relays_back : (mark : Bool) (p : ℕ) (ps : List ℕ) → All (RelayStands c q) (cond mark (p ∷ ps) ps) → IsMarkAllowed (money_site c) q mark p × All (RelayStands c q) ps
   relays_back true p ps all = (stands_marked p all.0, all.1)
   relays_back false p ps all = (tt, all)
 
@@ -92,7 +92,7 @@ module _ (c : Contents) (q : Request) where
     pub relays_stand : All (RelayStands c q) (relays c run)
     pub within_bound : Within q.bound l (stretches c run)
 
-  pub lawful_ahead : (p l : ℕ) (run : List Step) → l ≤ q.bound → Lawful (money_site c) q p l run → Ahead p l run
+  pub lawful_ahead : (p l : ℕ) (run : List Step) → l ≤ q.bound → IsLawful (money_site c) q p l run → Ahead p l run
   lawful_ahead p l [] low here = record { path = here; relays_stand = tt; within_bound = (omega arith, tt) }
   lawful_ahead p l (s ∷ rest) low (w, goes, on) =
       let way = entered (λ e. of_cents e.price) (slice_get c.ways s.way) w goes.opens in
@@ -103,11 +103,11 @@ module _ (c : Contents) (q : Request) where
       let ahead = lawful_ahead w.to (loss_after s.mark (l + w.loss)) rest low' on in
       record {
         path = (way.0, way.1, sym (ap (λ v. v.from) way.2) ∙ goes.leaves, subst (λ (x : ℕ). Path c x q.end rest) to ahead.path);
-        relays_stand = relays_on s.mark (arrival c s) (relays c rest) (subst (λ (x : ℕ). MarkAllowed (money_site c) q s.mark x) arrives goes.marks) ahead.relays_stand;
+        relays_stand = relays_on s.mark (arrival c s) (relays c rest) (subst (λ (x : ℕ). IsMarkAllowed (money_site c) q s.mark x) arrives goes.marks) ahead.relays_stand;
         within_bound = within_step q.bound l (loss c s) s.mark (stretches c rest) (subst (λ (x : ℕ). l + x ≤ q.bound) lost goes.arrives) (subst (λ (x : ℕ). Within q.bound (loss_after s.mark (l + x)) (stretches c rest)) lost ahead.within_bound);
       }
 
-  pub ahead_lawful : (p l : ℕ) (run : List Step) → Ahead p l run → Lawful (money_site c) q p l run
+  pub ahead_lawful : (p l : ℕ) (run : List Step) → Ahead p l run → IsLawful (money_site c) q p l run
   ahead_lawful p l [] a = a.path
   ahead_lawful p l (s ∷ rest) a =
       let e = a.path.0 in
@@ -121,7 +121,7 @@ module _ (c : Contents) (q : Request) where
           opens = ap (way_of (λ v. of_cents v.price)) at;
           leaves = a.path.2;
           arrives = subst (λ (x : ℕ). l + x ≤ q.bound) lost step.0;
-          marks = subst (λ (x : ℕ). MarkAllowed (money_site c) q s.mark x) (ap arrival_at at) set.0;
+          marks = subst (λ (x : ℕ). IsMarkAllowed (money_site c) q s.mark x) (ap arrival_at at) set.0;
         },
         ahead_lawful e.to (loss_after s.mark (l + entry_loss e)) rest
             (record {
@@ -132,10 +132,10 @@ module _ (c : Contents) (q : Request) where
       )
 
   -- a lawful run is feasible, and a feasible one lawful
-  pub lawful_feasible : (run : List Step) → Run (money_site c) q run → Feasible c q run
+  pub lawful_feasible : (run : List Step) → IsRun (money_site c) q run → Feasible c q run
   lawful_feasible run r =
       let a = lawful_ahead q.start 0 run (omega arith) r in
       record { path = a.path; relays_stand = a.relays_stand; within_bound = within_all q.bound (stretches c run) a.within_bound }
 
-  pub feasible_lawful : (run : List Step) → Feasible c q run → Run (money_site c) q run
+  pub feasible_lawful : (run : List Step) → Feasible c q run → IsRun (money_site c) q run
   feasible_lawful run f = ahead_lawful q.start 0 run (record { path = f.path; relays_stand = f.relays_stand; within_bound = all_within q.bound (stretches c run) f.within_bound })

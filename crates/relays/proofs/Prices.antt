@@ -3,16 +3,16 @@
 use Rattle.std.proofs.Common.{◌≡◌, ℕ, zero, suc, ◌+◌, ◌*◌, ◌≤◌, Bool, true, false, cond, leb, List, [], ◌∷◌, length, is_ok, Some, None, Ok, Err, Option, refl, arith}
 use Rattle.std.specs.List.{slice_get}
 use Rattle.std.proofs.lemmas.Bool.{leb-true}
-use Rattle.refusal.specs.declared.Refusal.{Refusal}
-use Rattle.refusal.specs.declared.Refusal.TheVariants.{TooDear}
-use Rattle.card.specs.Card.{loss_of}
+use Rattle.subject.specs.declared.refusal.Refusal.{Refusal}
+use Rattle.subject.specs.declared.refusal.Refusal.TheVariants.{TooDear}
+use Rattle.survey.specs.Card.{loss_of}
 use Rattle.survey.specs.declared.entry.Place.{Place}
 use Rattle.survey.specs.declared.entry.WayEntry.{WayEntry}
 use Rattle.survey.specs.declared.sealed.Sealed.{Sealed}
 use Rattle.survey.specs.Sealing.{sealed_contents}
 use Rattle.survey.specs.Checks.{then, price_check, place_check, ends_check, way_check, good_places, good_way, good_ways}
 use Rattle.survey.proofs.Good.{cond_first, cond_second, way_passed, then_passed}
-use Rattle.site.specs.declared.run.Step.{Step}
+use Rattle.subject.specs.declared.run.Step.{Step}
 use Rattle.relays.specs.Problem.{price_at, arrival, entered_at, relay_cents, relay_price, value}
 use Rattle.relays.proofs.Totals.{set_cents, value_front}
 

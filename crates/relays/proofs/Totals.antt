@@ -2,14 +2,14 @@
 -- each joining is to stop there once. By induction over the steps from the front, for any sum so far.
 use Rattle.std.proofs.Common.{◌≡◌, ℕ, ◌+◌, ◌≤◌, min, Bool, true, false, cond, List, [], ◌∷◌, map, Some, sum, ap, ◌∙◌, subst, arith}
 use Rattle.std.specs.List.{slice_get}
-use Rattle.charge.specs.Moneys.{of_cents, money, sum_of}
-use Rattle.charge.specs.declared.money.Money.{Money}
+use Rattle.subject.specs.Moneys.{of_cents, money, sum_of}
+use Rattle.subject.specs.declared.money.Money.{Money}
 use Rattle.survey.specs.Contents.{Contents}
-use Rattle.site.specs.declared.run.Step.{Step}
-use Rattle.site.specs.declared.run.Request.{Request}
-use Rattle.site.specs.Runs.{MarkAllowed, with_repeater, after_way, loss_after, Lawful, total_from}
-use Rattle.views.specs.SurveySite.{money_site}
-use Rattle.views.specs.Bounds.{entered}
+use Rattle.subject.specs.declared.run.Step.{Step}
+use Rattle.subject.specs.declared.run.Request.{Request}
+use Rattle.subject.specs.Runs.{IsMarkAllowed, with_repeater, after_way, loss_after, IsLawful, total_from}
+use Rattle.survey.specs.SurveySite.{money_site}
+use Rattle.survey.specs.SiteBounds.{entered}
 use Rattle.relays.specs.Problem.{arrival_at, price_at, price, arrival, relays, relay_cents, relay_price, value}
 use Rattle.relays.proofs.Lawful.{sum_front, entered_relay}
 
@@ -34,7 +34,7 @@ value_front c s rest =
 
 module _ (c : Contents) (q : Request) where
   -- the sum after a step
-  after_step : (a cents : ℕ) (mark : Bool) (p : ℕ) → MarkAllowed (money_site c) q mark p
+  after_step : (a cents : ℕ) (mark : Bool) (p : ℕ) → IsMarkAllowed (money_site c) q mark p
       → cond mark (with_repeater money (sum_of (of_cents a) (of_cents cents)) ((money_site c).repeater p)) (sum_of (of_cents a) (of_cents cents)) ≡ capped (a + cents + set_cents mark (relay_price c p))
   after_step a cents true p k =
       let r = entered_relay (slice_get c.places p) k.repeater k.stands in
@@ -42,7 +42,7 @@ module _ (c : Contents) (q : Request) where
       ap (with_repeater money (sum_of (of_cents a) (of_cents cents))) k.stands ∙ ap (sum_of (sum_of (of_cents a) (of_cents cents))) r.2 ∙ ap of_cents (omega arith)
   after_step a cents false p k = ap of_cents (omega arith)
 
-  pub total_capped : (p l a : ℕ) (run : List Step) → a ≤ 4000000000000000000 → Lawful (money_site c) q p l run → total_from money (money_site c) (of_cents a) run ≡ capped (a + value c run)
+  pub total_capped : (p l a : ℕ) (run : List Step) → a ≤ 4000000000000000000 → IsLawful (money_site c) q p l run → total_from money (money_site c) (of_cents a) run ≡ capped (a + value c run)
   total_capped p l a [] low here = ap of_cents (omega arith)
   total_capped p l a (s ∷ rest) low (w, goes, on) =
       let way = entered (λ e. of_cents e.price) (slice_get c.ways s.way) w goes.opens in
@@ -50,7 +50,7 @@ module _ (c : Contents) (q : Request) where
       let arrives : w.to ≡ e.to = ap (λ v. v.to) way.2 in
       let here : arrival c s ≡ e.to = ap arrival_at way.1 in
       let cents : price c s ≡ e.price = ap price_at way.1 in
-      let allowed : MarkAllowed (money_site c) q s.mark e.to = subst (λ (x : ℕ). MarkAllowed (money_site c) q s.mark x) arrives goes.marks in
+      let allowed : IsMarkAllowed (money_site c) q s.mark e.to = subst (λ (x : ℕ). IsMarkAllowed (money_site c) q s.mark x) arrives goes.marks in
       let step : after_way money (money_site c) (of_cents a) s.mark ((money_site c).way s.way) ≡ capped (a + e.price + set_cents s.mark (relay_price c e.to)) =
       ap (after_way money (money_site c) (of_cents a) s.mark) (goes.opens ∙ ap Some way.2) ∙ after_step a e.price s.mark e.to allowed in
       let front = value_front c s rest in

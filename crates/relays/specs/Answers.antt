@@ -1,14 +1,14 @@
 -- What a plan for money answers, in the words of the minimum cost path problem with relays. Stands on that problem, and on the
 -- causes for which a request is refused before any search.
 use Rattle.std.specs.Prelude.{◌≡◌, ℕ, ◌+◌, ◌*◌, ◌<◌, ◌≤◌, List, length, take, Result, MatchResult}
-use Rattle.refusal.specs.declared.Refusal.{Refusal}
-use Rattle.refusal.specs.declared.Refusal.TheVariants.{NoRun}
-use Rattle.charge.specs.declared.money.Money.{Money}
-use Rattle.charge.specs.Moneys.{of_cents}
+use Rattle.subject.specs.declared.refusal.Refusal.{Refusal}
+use Rattle.subject.specs.declared.refusal.Refusal.TheVariants.{NoRun}
+use Rattle.subject.specs.declared.money.Money.{Money}
+use Rattle.subject.specs.Moneys.{of_cents}
 use Rattle.survey.specs.Contents.{Contents}
-use Rattle.site.specs.declared.run.Step.{Step}
-use Rattle.site.specs.declared.run.Request.{Request}
-use Rattle.search.specs.Checks.{Passed}
+use Rattle.subject.specs.declared.run.Step.{Step}
+use Rattle.subject.specs.declared.run.Request.{Request}
+use Rattle.search.specs.Checks.{ChecksPass}
 use Rattle.planner.specs.declared.planned.Planned.{Planned}
 use Rattle.relays.specs.Problem.{Infeasible, Optimal, value}
 
@@ -23,7 +23,7 @@ pub record Solved (c : Contents) (q : Request) (run : List Step) (total : Money)
 -- the refusal e says that there is no run only if no path is feasible; and a request that passes the checks gets no other
 pub record Unsolved (c : Contents) (q : Request) (cells many steps : ℕ) (e : Refusal) : Type 0 where
   pub none : e ≡ NoRun → Infeasible c q
-  pub only : Passed (length c.places) q cells many steps → e ≡ NoRun
+  pub only : ChecksPass (length c.places) q cells many steps → e ≡ NoRun
 
 -- an answer: an optimal path in the first run rows with what it costs, or a refusal
 abbrev pub Answered : Contents → Request → ℕ → ℕ → ℕ → List Step → Result (Planned Money) Refusal → Type 0

@@ -7,9 +7,9 @@ use Rattle.std.specs.List.{slice_get, AllByRecursion}
 use Rattle.survey.specs.declared.entry.Place.{Place}
 use Rattle.survey.specs.declared.entry.WayEntry.{WayEntry}
 use Rattle.survey.specs.Contents.{Contents}
-use Rattle.site.specs.declared.run.Step.{Step}
-use Rattle.site.specs.declared.run.Request.{Request}
-use Rattle.views.specs.SurveySite.{entry_loss}
+use Rattle.subject.specs.declared.run.Step.{Step}
+use Rattle.subject.specs.declared.run.Request.{Request}
+use Rattle.survey.specs.SurveySite.{entry_loss}
 
 -- the steps are a path from the place p to the place e: each goes over a way of the survey that leaves where the last arrived
 abbrev pub Path : Contents → ℕ → ℕ → List Step → Type 0

@@ -2,22 +2,22 @@
 #![tactic(auto)]
 
 ghost use Rattle.std.specs.Prelude.{length};
-ghost use Rattle.charge.specs.Moneys.{money};
+ghost use Rattle.subject.specs.Moneys.{money};
 ghost use Rattle.survey.specs.Sealing.{sealed_contents};
-ghost use Rattle.views.specs.SurveySite.{money_site};
-ghost use Rattle.search.specs.Lends.{lent, SameLenders};
-ghost use Rattle.planner.specs.Outcome.{Outcome};
+ghost use Rattle.survey.specs.SurveySite.{money_site};
+ghost use Rattle.search.specs.Lends.{lent_memory, SameLenders};
+ghost use Rattle.planner.specs.Outcome.{PlanOutcome};
 ghost use Rattle.relays.specs.Answers.{Answered};
 
-use charge::money::Money;
+use subject::money::Money;
 use planner::plan::plan;
 use planner::planned::Planned;
-use queue::queue::PriorityQueue;
-use refusal::Refusal;
+use subject::queue::PriorityQueue;
+use subject::refusal::Refusal;
 use search::memory::Memory;
-use site::run::Request;
+use subject::run::Request;
 use survey::sealed::Sealed;
-use views::money::MoneyView;
+use survey::view::MoneyView;
 
 // A plan over a sealed survey as a site for money.
 fn plan_over<Q: PriorityQueue<Charge = Money>>(
@@ -25,7 +25,7 @@ fn plan_over<Q: PriorityQueue<Charge = Money>>(
     request: Request,
     memory: &mut Memory<'_, Money, Q>,
 ) -> Result<Planned<Money>, Refusal>
-    ensures outcome { Outcome money Q.PriorityQueue.many (money_site (sealed_contents view.now.survey.now)) request (lent memory.old) (lent memory.new) result }
+    ensures outcome { PlanOutcome money Q.PriorityQueue.many (money_site (sealed_contents view.now.survey.now)) request (lent_memory memory.old) (lent_memory memory.new) result }
     ensures same { SameLenders Q.PriorityQueue.lenders memory.old memory.new }
 {
     plan(view, request, memory)
@@ -38,7 +38,7 @@ pub fn plan_for_money<Q: PriorityQueue<Charge = Money>>(
     request: Request,
     memory: &mut Memory<'_, Money, Q>,
 ) -> Result<Planned<Money>, Refusal>
-    ensures plan { Outcome money Q.PriorityQueue.many (money_site (sealed_contents survey.now)) request (lent memory.old) (lent memory.new) result }
+    ensures plan { PlanOutcome money Q.PriorityQueue.many (money_site (sealed_contents survey.now)) request (lent_memory memory.old) (lent_memory memory.new) result }
     ensures problem { Answered (sealed_contents survey.now) request (length memory.old.cells.now) (Q.PriorityQueue.many memory.old.queue) (length memory.old.run.now) memory.new.run.now result }
     ensures same { SameLenders Q.PriorityQueue.lenders memory.old memory.new }
 {

@@ -4,15 +4,15 @@
 -- waiting charge is no more than any total (lowest), and where none waits there is no lawful run (no_run).
 use Rattle.std.proofs.Common.{◌≡◌, ℕ, ◌+◌, ◌<◌, ◌≤◌, Bool, true, false, ◌≢◌, ◌⊎◌, List, [], ◌∷◌, Some, None, Option, sym, refl, ap, ◌∙◌, subst, inl, inr, ⊎_elim, arith}
 use Rattle.std.proofs.lemmas.Bool.{cases_Bool, cases_eq, cases_lt}
-use Rattle.site.specs.declared.way.Way.{Way}
-use Rattle.site.specs.declared.run.Step.{Step}
-use Rattle.site.specs.declared.run.Request.{Request}
-use Rattle.site.specs.Meaning.{SiteMeaning, Bounded}
-use Rattle.charge.specs.Kind.{Kind}
-use Rattle.site.specs.Runs.{Goes, loss_after, after_way, with_repeater, Lawful, total_from, Run, Lowest}
-use Rattle.queue.specs.Waits.{Put, Taken}
+use Rattle.subject.specs.declared.way.Way.{Way}
+use Rattle.subject.specs.declared.run.Step.{Step}
+use Rattle.subject.specs.declared.run.Request.{Request}
+use Rattle.subject.specs.Sites.{SiteMeaning, IsBounded}
+use Rattle.subject.specs.Charges.{Kind}
+use Rattle.subject.specs.Runs.{IsStepOver, loss_after, after_way, with_repeater, IsLawful, total_from, IsRun, IsLowest}
+use Rattle.subject.specs.Queues.{IsPut, IsTaken}
 use Rattle.search.specs.Cells.{place_of, loss_of}
-use Rattle.search.specs.Search.{Laws, Covered, Offered, Searching, Expanding, Entered, Dominated}
+use Rattle.search.specs.Search.{Laws, IsCovered, IsOffered, SearchState, ExpandState, EnterOutcome, IsDominated}
 
 module _ {C : Type 0} (k : Kind C) (laws : Laws k) where
   pub same : (a : C) → k.within a a ≡ true
@@ -45,7 +45,7 @@ module _ {C : Type 0} (k : Kind C) (laws : Laws k) where
 
   module _ (m : SiteMeaning C) (ask : Request) where
     -- more loss or a higher sum is covered all the more
-    pub covered_up : {done waits : ℕ → Option C} {p l : ℕ} {sum : C} (l' : ℕ) (sum' : C) → l ≤ l' → k.within sum sum' ≡ true → Covered k ask done waits p l sum → Covered k ask done waits p l' sum'
+    pub covered_up : {done waits : ℕ → Option C} {p l : ℕ} {sum : C} (l' : ℕ) (sum' : C) → l ≤ l' → k.within sum sum' ≡ true → IsCovered k ask done waits p l sum → IsCovered k ask done waits p l' sum'
     covered_up l' sum' h w g = record {
       cell = g.cell;
       charge = g.charge;
@@ -59,7 +59,7 @@ module _ {C : Type 0} (k : Kind C) (laws : Laws k) where
     after_up true a b h = omega arith
     after_up false a b h = h
 
-    goes_from : {p l : ℕ} (q l' : ℕ) (s : Step) (w : Way C) → q ≡ p → l' ≤ l → Goes m ask p l s w → Goes m ask q l' s w
+    goes_from : {p l : ℕ} (q l' : ℕ) (s : Step) (w : Way C) → q ≡ p → l' ≤ l → IsStepOver m ask p l s w → IsStepOver m ask q l' s w
     goes_from q l' s w e h g = record {
       opens = g.opens;
       leaves = g.leaves ∙ sym e;
@@ -74,7 +74,7 @@ module _ {C : Type 0} (k : Kind C) (laws : Laws k) where
         ((x : ℕ) × (c : C) × (waits x ≡ Some c) × (k.within c sum ≡ true))
         ⊎ ((x : ℕ) × (c : C) × (done x ≡ Some c) × (place_of ask x ≡ ask.end))
 
-    pub told : (done waits : ℕ → Option C) → Searching k m ask done waits → (run : List Step) (p l : ℕ) (sum : C) → Covered k ask done waits p l sum → Lawful m ask p l run → Told done waits (total_from k m sum run)
+    pub told : (done waits : ℕ → Option C) → SearchState k m ask done waits → (run : List Step) (p l : ℕ) (sum : C) → IsCovered k ask done waits p l sum → IsLawful m ask p l run → Told done waits (total_from k m sum run)
     unfolding Told
     told done waits inv [] p l sum g e =
         elim g.held [
@@ -87,7 +87,7 @@ module _ {C : Type 0} (k : Kind C) (laws : Laws k) where
           | inr w ↦ inl (g.cell, g.charge, w, laws.transitive _ _ _ g.low (run_rises m (s ∷ rest) sum))
         ]
       where
-        next : done g.cell ≡ Some g.charge → Covered k ask done waits lawful.0.to (loss_after s.mark (l + lawful.0.loss)) (after_way k m sum s.mark (m.way s.way))
+        next : done g.cell ≡ Some g.charge → IsCovered k ask done waits lawful.0.to (loss_after s.mark (l + lawful.0.loss)) (after_way k m sum s.mark (m.way s.way))
         next d =
             let w = lawful.0 in
             let loss = g.loss in
@@ -97,7 +97,7 @@ module _ {C : Type 0} (k : Kind C) (laws : Laws k) where
             covered_up _ _ (after_up s.mark _ _ (omega arith)) up o
 
     -- where nothing waits, no run is lawful: there is no waiting charge, and no cell of the end is settled
-    pub no_run : (done waits : ℕ → Option C) → Searching k m ask done waits → ((x : ℕ) → waits x ≡ None) → (run : List Step) → Run m ask run → ⊥
+    pub no_run : (done waits : ℕ → Option C) → SearchState k m ask done waits → ((x : ℕ) → waits x ≡ None) → (run : List Step) → IsRun m ask run → ⊥
     unfolding Told
     no_run done waits inv none run lawful =
         elim (told done waits inv run ask.start 0 k.free inv.started lawful) [
@@ -106,7 +106,7 @@ module _ {C : Type 0} (k : Kind C) (laws : Laws k) where
         ]
 
     -- a charge that is no more than every waiting one is no more than the total of any lawful run
-    pub lowest : (done waits : ℕ → Option C) (c : C) → Searching k m ask done waits → ((x : ℕ) (d : C) → waits x ≡ Some d → k.within c d ≡ true) → Lowest k m ask c
+    pub lowest : (done waits : ℕ → Option C) (c : C) → SearchState k m ask done waits → ((x : ℕ) (d : C) → waits x ≡ Some d → k.within c d ≡ true) → IsLowest k m ask c
     unfolding Told
     lowest done waits c inv least run lawful =
         elim (told done waits inv run ask.start 0 k.free inv.started lawful) [
@@ -116,8 +116,8 @@ module _ {C : Type 0} (k : Kind C) (laws : Laws k) where
 
     -- from one state to another all stays covered, if every cell that was held is covered with its charge in the new one
     pub covered_kept : (done waits done' waits' : ℕ → Option C)
-        → ((x : ℕ) (c : C) → (done x ≡ Some c) ⊎ (waits x ≡ Some c) → Covered k ask done' waits' (place_of ask x) (loss_of ask x) c)
-        → {p l : ℕ} {sum : C} → Covered k ask done waits p l sum → Covered k ask done' waits' p l sum
+        → ((x : ℕ) (c : C) → (done x ≡ Some c) ⊎ (waits x ≡ Some c) → IsCovered k ask done' waits' (place_of ask x) (loss_of ask x) c)
+        → {p l : ℕ} {sum : C} → IsCovered k ask done waits p l sum → IsCovered k ask done' waits' p l sum
     covered_kept done waits done' waits' keep g =
         let n = keep g.cell g.charge g.held in
         record {
@@ -130,13 +130,13 @@ module _ {C : Type 0} (k : Kind C) (laws : Laws k) where
         }
 
     -- a cell that is held covers itself
-    pub itself : (done waits : ℕ → Option C) (x : ℕ) (c : C) → (done x ≡ Some c) ⊎ (waits x ≡ Some c) → Covered k ask done waits (place_of ask x) (loss_of ask x) c
+    pub itself : (done waits : ℕ → Option C) (x : ℕ) (c : C) → (done x ≡ Some c) ⊎ (waits x ≡ Some c) → IsCovered k ask done waits (place_of ask x) (loss_of ask x) c
     itself done waits x c h = record { cell = x; charge = c; place = refl; loss = omega arith; low = same c; held = h }
 
     -- the search begins: nothing is settled, and the start's cell alone waits, with nothing
     pub start_holds : (done waits : ℕ → Option C) (x : ℕ)
-        → ((y : ℕ) → done y ≡ None) → Put (λ _. None) waits x k.free → place_of ask x ≡ ask.start → loss_of ask x ≡ 0
-        → Searching k m ask done waits
+        → ((y : ℕ) → done y ≡ None) → IsPut (λ _. None) waits x k.free → place_of ask x ≡ ask.start → loss_of ask x ≡ 0
+        → SearchState k m ask done waits
     start_holds done waits x none put p l = record {
       started = record { cell = x; charge = k.free; place = p; loss = omega arith; low = same k.free; held = inr put.here };
       offered = λ y c e. absurd (never y c e);
@@ -148,8 +148,8 @@ module _ {C : Type 0} (k : Kind C) (laws : Laws k) where
         never y c e = let f = none y in let z : ◌≡◌ {A = ℕ} 0 1 = cc in omega arith
 
     module _ (done waits done' waits' : ℕ → Option C) (x : ℕ) (c : C)
-        (inv : Searching k m ask done waits) (fresh : done x ≡ None) (taken : Taken k.within waits waits' x c) (put : Put done done' x c) where
-      take_labels : (y : ℕ) (d : C) → (done y ≡ Some d) ⊎ (waits y ≡ Some d) → Covered k ask done' waits' (place_of ask y) (loss_of ask y) d
+        (inv : SearchState k m ask done waits) (fresh : done x ≡ None) (taken : IsTaken k.within waits waits' x c) (put : IsPut done done' x c) where
+      take_labels : (y : ℕ) (d : C) → (done y ≡ Some d) ⊎ (waits y ≡ Some d) → IsCovered k ask done' waits' (place_of ask y) (loss_of ask y) d
       take_labels y d h =
           elim (cases_eq y x) [
             | inl e ↦ elim h [
@@ -164,14 +164,14 @@ module _ {C : Type 0} (k : Kind C) (laws : Laws k) where
             ]
           ]
 
-      take_covered : {p l : ℕ} {sum : C} → Covered k ask done waits p l sum → Covered k ask done' waits' p l sum
+      take_covered : {p l : ℕ} {sum : C} → IsCovered k ask done waits p l sum → IsCovered k ask done' waits' p l sum
       take_covered = covered_kept done waits done' waits' take_labels
 
       was : (y : ℕ) (d : C) → done' y ≡ Some d → y ≢ x → done y ≡ Some d
       was y d e ne = sym (put.others y ne) ∙ e
 
       -- a lowest waiting cell, which is not one of the end, is taken and settled
-      pub take_keeps : place_of ask x ≢ ask.end → Expanding k m ask done' waits' x c
+      pub take_keeps : place_of ask x ≢ ask.end → ExpandState k m ask done' waits' x c
       take_keeps ne = record {
         started = take_covered inv.started;
         settled = put.here;
@@ -190,8 +190,8 @@ module _ {C : Type 0} (k : Kind C) (laws : Laws k) where
         ];
       }
 
-    module _ (done waits waits' : ℕ → Option C) (y : ℕ) (d : C) (en : Entered k done waits waits' y d) where
-      offer_labels : (z : ℕ) (e : C) → (done z ≡ Some e) ⊎ (waits z ≡ Some e) → Covered k ask done waits' (place_of ask z) (loss_of ask z) e
+    module _ (done waits waits' : ℕ → Option C) (y : ℕ) (d : C) (en : EnterOutcome k done waits waits' y d) where
+      offer_labels : (z : ℕ) (e : C) → (done z ≡ Some e) ⊎ (waits z ≡ Some e) → IsCovered k ask done waits' (place_of ask z) (loss_of ask z) e
       offer_labels z e h =
           elim h [
             | inl f ↦ itself done waits' z e (inl f)
@@ -202,15 +202,15 @@ module _ {C : Type 0} (k : Kind C) (laws : Laws k) where
             ]
           ]
 
-      pub offer_covered : {p l : ℕ} {sum : C} → Covered k ask done waits p l sum → Covered k ask done waits' p l sum
+      pub offer_covered : {p l : ℕ} {sum : C} → IsCovered k ask done waits p l sum → IsCovered k ask done waits' p l sum
       offer_covered = covered_kept done waits done waits' offer_labels
 
       -- the offered place, loss and charge are covered
-      pub offer_covers : (p l : ℕ) → place_of ask y ≡ p → loss_of ask y ≡ l → Covered k ask done waits' p l d
+      pub offer_covers : (p l : ℕ) → place_of ask y ≡ p → loss_of ask y ≡ l → IsCovered k ask done waits' p l d
       offer_covers p l a b = record { cell = y; charge = en.charge; place = a; loss = omega arith; low = en.low; held = en.held }
 
       -- a cell is offered a charge that is no less than that of the cell it comes from
-      pub offer_keeps : (x : ℕ) (c : C) → k.within c d ≡ true → Expanding k m ask done waits x c → Expanding k m ask done waits' x c
+      pub offer_keeps : (x : ℕ) (c : C) → k.within c d ≡ true → ExpandState k m ask done waits x c → ExpandState k m ask done waits' x c
       offer_keeps x c up inv = record {
         started = offer_covered inv.started;
         settled = inv.settled;
@@ -227,7 +227,7 @@ module _ {C : Type 0} (k : Kind C) (laws : Laws k) where
       }
 
     -- every way was offered, so that the next cell can be taken; past the number of ways there is none to offer
-    pub expanded : (done waits : ℕ → Option C) (x : ℕ) (c : C) → Bounded m → Expanding k m ask done waits x c → ((i : ℕ) → i < m.ways → Offered k m ask done waits x c i) → Searching k m ask done waits
+    pub expanded : (done waits : ℕ → Option C) (x : ℕ) (c : C) → IsBounded m → ExpandState k m ask done waits x c → ((i : ℕ) → i < m.ways → IsOffered k m ask done waits x c i) → SearchState k m ask done waits
     expanded done waits x c b inv all = record {
       started = inv.started;
       offered = λ y d e i. elim (cases_eq y x) [
@@ -243,7 +243,7 @@ module _ {C : Type 0} (k : Kind C) (laws : Laws k) where
     }
 
     -- the ways of a dominated cell need no offer: each leads where the dominating cell's did, with no more loss for no more
-    pub skipped : (done waits : ℕ → Option C) (x : ℕ) (c : C) → Expanding k m ask done waits x c → Dominated ask done x → Searching k m ask done waits
+    pub skipped : (done waits : ℕ → Option C) (x : ℕ) (c : C) → ExpandState k m ask done waits x c → IsDominated ask done x → SearchState k m ask done waits
     skipped done waits x c inv dom = record {
       started = inv.started;
       offered = λ y d e i. elim (cases_eq y x) [

@@ -1,13 +1,13 @@
 -- A request that is stopped before any search does not pass, and is not told that there is no run: each cause that stops it
 -- speaks against one part of what passes, and has a number of its own.
 use Rattle.std.proofs.Common.{◌≡◌, ℕ, inl, inr, arith}
-use Rattle.refusal.specs.declared.Refusal.{Refusal}
-use Rattle.refusal.specs.declared.Refusal.TheVariants.{NoRun}
-use Rattle.site.specs.declared.run.Request.{Request}
-use Rattle.search.specs.Checks.{Passed, Stopped}
+use Rattle.subject.specs.declared.refusal.Refusal.{Refusal}
+use Rattle.subject.specs.declared.refusal.Refusal.TheVariants.{NoRun}
+use Rattle.subject.specs.declared.run.Request.{Request}
+use Rattle.search.specs.Checks.{ChecksPass, FirstCause}
 
 module _ (places : ℕ) (q : Request) (cells many steps : ℕ) (e : Refusal) where
-  pub stopped_fails : Stopped places q cells many steps e → Passed places q cells many steps → ⊥
+  pub stopped_fails : FirstCause places q cells many steps e → ChecksPass places q cells many steps → ⊥
   stopped_fails s p =
       let start = p.places_stand.start in
       let end = p.places_stand.end in
@@ -24,7 +24,7 @@ module _ (places : ℕ) (q : Request) (cells many steps : ℕ) (e : Refusal) whe
         ]
       ]
 
-  pub stopped_other : Stopped places q cells many steps e → e ≡ NoRun → ⊥
+  pub stopped_other : FirstCause places q cells many steps e → e ≡ NoRun → ⊥
   stopped_other (inl s) n = let a = s.0 in let z : ◌≡◌ {A = ℕ} 0 1 = cc in omega arith
   stopped_other (inr (inl s)) n = let a = s.0 in let z : ◌≡◌ {A = ℕ} 0 1 = cc in omega arith
   stopped_other (inr (inr s)) n = let a = s.0 in let z : ◌≡◌ {A = ℕ} 0 1 = cc in omega arith

@@ -6,18 +6,18 @@ use Rattle.std.proofs.lemmas.Bool.{cases_eq, not-true, not-false}
 use Rattle.std.proofs.lemmas.Grind.{common_steps}
 use Rattle.std.proofs.lemmas.List.{get_or-map}
 use Rattle.std.proofs.lemmas.Option.{gets}
-use Rattle.site.specs.declared.run.Request.{Request}
-use Rattle.site.specs.Meaning.{SiteMeaning}
-use Rattle.charge.specs.Kind.{Kind}
-use Rattle.queue.specs.Waits.{Put}
+use Rattle.subject.specs.declared.run.Request.{Request}
+use Rattle.subject.specs.Sites.{SiteMeaning}
+use Rattle.subject.specs.Charges.{Kind}
+use Rattle.subject.specs.Queues.{IsPut}
 use Rattle.search.specs.Search.{Laws}
-use Rattle.search.specs.Rows.{settled_as, waits_as, settled_row, waits_row, done_in, Agree, Offering, improves, Room}
+use Rattle.search.specs.Rows.{settled_as, waits_as, settled_row, waits_row, done_in, QueueAgrees, OfferOutcome, improves, RoomSuffices}
 use Rattle.search.specs.Columns.{SameIndex, cells_of, heads_of, nexts_of, blank_row}
 use Rattle.std.specs.Borrow.{GName}
 use Rattle.search.specs.Lends.{SameLenders}
 use Rattle.search.specs.declared.memory.Memory.{Memory}
-use Rattle.search.specs.Index.{Indexed}
-use Rattle.search.specs.declared.cell.Row.{Row}
+use Rattle.search.specs.Index.{IsIndexed}
+use Rattle.search.specs.declared.cell.CellRow.{Row}
 use Rattle.search.specs.declared.cell.Cell.{Cell}
 use Rattle.search.specs.declared.cell.Cell.TheVariants.{Unseen, Waiting, Settled}
 use Rattle.search.specs.declared.cell.Reached.{Reached}
@@ -30,7 +30,7 @@ pub nth_set_same : {X : Type 0} (xs : List X) (i : ℕ) (a : X) → i < length x
 nth_set_same xs i a h = grind (arith, common_steps, gets)
 
 module _ {C : Type 0} (k : Kind C) (laws : Laws k) (rows : List (Cell C)) (waits waits' : ℕ → Option C) (at : ℕ) (old : Cell C) (new : Reached C)
-    (inside : at < length rows) (row : slice_get rows at ≡ Some old) (agree : Agree rows waits) where
+    (inside : at < length rows) (row : slice_get rows at ≡ Some old) (agree : QueueAgrees rows waits) where
   -- a row that the offer improves is not settled, and did not wait with a lower charge
   clear_of : (c : Cell C) → improves k c new.charge ≡ true → settled_as c ≡ None
   clear_of Unseen h = refl
@@ -44,7 +44,7 @@ module _ {C : Type 0} (k : Kind C) (laws : Laws k) (rows : List (Cell C)) (waits
       laws.total e new.charge (rw (← de) (not-true (k.within r.charge new.charge) h))
   not_less (Settled r) e h w = absurd (let z : ◌≡◌ {A = ℕ} 0 1 = cc in omega arith)
 
-  pub offered_over : improves k old new.charge ≡ true → Put waits waits' at new.charge → Offering k rows (set rows at (Waiting new)) waits waits' at new
+  pub offered_over : improves k old new.charge ≡ true → IsPut waits waits' at new.charge → OfferOutcome k rows (set rows at (Waiting new)) waits waits' at new
   unfolding done_in
   offered_over h put = record {
     entered = record {
@@ -67,7 +67,7 @@ module _ {C : Type 0} (k : Kind C) (laws : Laws k) (rows : List (Cell C)) (waits
   kept_as (Waiting r) h low = (r.charge, not-false (k.within r.charge new.charge) h, inr refl)
   kept_as (Settled r) h low = (r.charge, low r.charge refl, inl refl)
 
-  pub offered_none : improves k old new.charge ≡ false → ((e : C) → done_in rows at ≡ Some e → k.within e new.charge ≡ true) → Offering k rows rows waits waits at new
+  pub offered_none : improves k old new.charge ≡ false → ((e : C) → done_in rows at ≡ Some e → k.within e new.charge ≡ true) → OfferOutcome k rows rows waits waits at new
   unfolding done_in
   offered_none h low =
       let p = kept_as old h (λ e q. low e (ap settled_row row ∙ q)) in
@@ -112,11 +112,11 @@ nth_column f rows i d h = grind (arith, common_steps, gets)
 pub same_lenders : {C Q : Type 0} {lenders : Q → List GName} {a b c : Memory C Q} → SameLenders lenders a b → SameLenders lenders b c → SameLenders lenders a c
 same_lenders p q = record { cells = q.cells ∙ p.cells; queue = q.queue ∙ p.queue; run = q.run ∙ p.run; many_cells = q.many_cells ∙ p.many_cells; many_steps = q.many_steps ∙ p.many_steps }
 
-pub room_kept : {C : Type 0} (m : SiteMeaning C) (ask : Request) (n n' many many' : ℕ) → n' ≡ n → many' ≡ many → Room m ask n many → Room m ask n' many'
+pub room_kept : {C : Type 0} (m : SiteMeaning C) (ask : Request) (n n' many many' : ℕ) → n' ≡ n → many' ≡ many → RoomSuffices m ask n many → RoomSuffices m ask n' many'
 room_kept m ask n n' many many' p q r = record { bound = r.bound; fits = omega (arith, r.fits); rows_suffice = omega (arith, r.rows_suffice); queue_suffices = omega (arith, r.queue_suffices) }
 
 pub read_column : {A B : Type 0} (f : A → B) (rows : List A) (i : ℕ) (d : A) (e : B) → i < length rows → f (get_or rows i d) ≡ get_or (map f rows) i e
 read_column f rows i d e h = sym (get_or-map f rows i d e h)
 
-pub indexed_kept : {C : Type 0} (m : SiteMeaning C) (rows rows' : List (Row C)) (n n' : ℕ) → n ≡ n' → SameIndex rows rows' → Indexed m (heads_of rows) (nexts_of rows) n → Indexed m (heads_of rows') (nexts_of rows') n'
+pub indexed_kept : {C : Type 0} (m : SiteMeaning C) (rows rows' : List (Row C)) (n n' : ℕ) → n ≡ n' → SameIndex rows rows' → IsIndexed m (heads_of rows) (nexts_of rows) n → IsIndexed m (heads_of rows') (nexts_of rows') n'
 indexed_kept m rows rows' n n' e s ix = rw (s.heads, s.nexts, ← e) ix

@@ -3,13 +3,13 @@
 use Rattle.std.proofs.Common.{◌≡◌, ℕ, zero, suc, ◌+◌, ◌*◌, ◌/◌, ◌%◌, ◌<◌, ◌≤◌, Bool, true, false, List, [], ◌∷◌, length, take, drop, set, Some, sym, refl, ap, ◌∙◌, subst, inl, inr, div-le_self, arith}
 use lib.Arith.{digits_div, digits_mod}
 use Rattle.std.proofs.lemmas.Nat.{div-add-mod'}
-use Rattle.site.specs.declared.run.Step.{Step}
-use Rattle.site.specs.declared.run.Request.{Request}
-use Rattle.site.specs.Meaning.{SiteMeaning}
-use Rattle.charge.specs.Kind.{Kind}
-use Rattle.site.specs.Runs.{Lawful, total_from, after_way, loss_after, Avoids, NoneTwice, place_behind, loss_behind}
+use Rattle.subject.specs.declared.run.Step.{Step}
+use Rattle.subject.specs.declared.run.Request.{Request}
+use Rattle.subject.specs.Sites.{SiteMeaning}
+use Rattle.subject.specs.Charges.{Kind}
+use Rattle.subject.specs.Runs.{IsLawful, total_from, after_way, loss_after, IsAvoided, NoneTwice, place_behind, loss_behind}
 use Rattle.search.specs.Cells.{place_of, loss_of}
-use Rattle.search.specs.Rows.{First, Next, Linked, Trail, Whole, reached_row, reached_in}
+use Rattle.search.specs.Rows.{IsFirst, IsNext, IsLinked, Trail, WholeRun, reached_row, reached_in}
 use Rattle.search.specs.declared.cell.Cell.{Cell}
 use Rattle.search.specs.declared.cell.Reached.{Reached}
 use Rattle.search.proofs.Turns.{some_same}
@@ -21,20 +21,20 @@ one_cell ask x y p l =
     sym (div-add-mod' x (ask.bound + 1)) ∙ ap (λ q. q * (ask.bound + 1) + x % (ask.bound + 1)) p ∙ ap (λ r. y / (ask.bound + 1) * (ask.bound + 1) + r) l ∙ div-add-mod' y (ask.bound + 1)
 
 module _ {C : Type 0} (k : Kind C) (m : SiteMeaning C) (ask : Request) (rows : List (Cell C)) where
-  module _ (x : ℕ) (r : Reached C) (rest : List Step) (sum : C) (n : Next k m ask rows x r) (tr : Trail k m ask rows x r rest sum) where
+  module _ (x : ℕ) (r : Reached C) (rest : List Step) (sum : C) (n : IsNext k m ask rows x r) (tr : Trail k m ask rows x r rest sum) where
     there : place_behind (m.way n.by.step.way) ≡ place_of ask x
     there = ap place_behind n.goes.opens ∙ sym n.place
 
     lost : loss_behind (m.way n.by.step.way) n.by.step.mark (loss_of ask n.by.from) ≡ loss_of ask x
     lost = ap (λ o. loss_behind o n.by.step.mark (loss_of ask n.by.from)) n.goes.opens ∙ sym n.loss
 
-    avoided : (y : ℕ) (q : Reached C) → reached_in rows y ≡ Some q → q.steps < r.steps → Avoids m (place_of ask y) (loss_of ask y) (place_behind (m.way n.by.step.way)) (loss_behind (m.way n.by.step.way) n.by.step.mark (loss_of ask n.by.from)) rest
+    avoided : (y : ℕ) (q : Reached C) → reached_in rows y ≡ Some q → q.steps < r.steps → IsAvoided m (place_of ask y) (loss_of ask y) (place_behind (m.way n.by.step.way)) (loss_behind (m.way n.by.step.way) n.by.step.mark (loss_of ask n.by.from)) rest
     avoided y q e h = rw (there, lost) (tr.avoids y q e h)
 
     -- over one link back
     pub trail_back : Trail k m ask rows n.by.from n.before (n.by.step ∷ rest) sum
     trail_back = record {
-      lawful = (n.over, n.goes, subst (λ (p : ℕ). Lawful m ask p (loss_after n.by.step.mark (loss_of ask n.by.from + n.over.loss)) rest) n.place (subst (λ (l : ℕ). Lawful m ask (place_of ask x) l rest) n.loss tr.lawful));
+      lawful = (n.over, n.goes, subst (λ (p : ℕ). IsLawful m ask p (loss_after n.by.step.mark (loss_of ask n.by.from + n.over.loss)) rest) n.place (subst (λ (l : ℕ). IsLawful m ask (place_of ask x) l rest) n.loss tr.lawful));
       comes_to = ap (λ o. total_from k m (after_way k m n.before.charge n.by.step.mark o) rest) n.goes.opens ∙ ap (λ c. total_from k m c rest) (sym n.charge) ∙ tr.comes_to;
       avoids = λ y q e h. (
         (λ a b. let same : n.by.from ≡ y = one_cell ask n.by.from y a b in
@@ -47,17 +47,17 @@ module _ {C : Type 0} (k : Kind C) (m : SiteMeaning C) (ask : Request) (rows : L
     }
 
   -- at the start's cell the trail is a whole run
-  pub trail_whole : (x : ℕ) (r : Reached C) (rest : List Step) (sum : C) → First k ask x r → Trail k m ask rows x r rest sum → Whole k m ask rest sum
+  pub trail_whole : (x : ℕ) (r : Reached C) (rest : List Step) (sum : C) → IsFirst k ask x r → Trail k m ask rows x r rest sum → WholeRun k m ask rest sum
   trail_whole x r rest sum f tr = record {
-    lawful = subst (λ (p : ℕ). Lawful m ask p 0 rest) f.place (subst (λ (l : ℕ). Lawful m ask (place_of ask x) l rest) f.loss tr.lawful);
+    lawful = subst (λ (p : ℕ). IsLawful m ask p 0 rest) f.place (subst (λ (l : ℕ). IsLawful m ask (place_of ask x) l rest) f.loss tr.lawful);
     comes_to = sym tr.comes_to ∙ ap (λ c. total_from k m c rest) f.charge;
     once = subst (λ (p : ℕ). NoneTwice m p 0 rest) f.place (subst (λ (l : ℕ). NoneTwice m (place_of ask x) l rest) f.loss tr.once);
   }
 
-  pub not_first : (x : ℕ) (r : Reached C) → Linked k m ask rows x r → 0 < r.steps → Next k m ask rows x r
+  pub not_first : (x : ℕ) (r : Reached C) → IsLinked k m ask rows x r → 0 < r.steps → IsNext k m ask rows x r
   not_first x r l h = elim l [ inl f ↦ absurd (let s = f.steps in omega arith) | inr n ↦ n ]
 
-  pub is_first : (x : ℕ) (r : Reached C) → Linked k m ask rows x r → r.steps ≡ 0 → First k ask x r
+  pub is_first : (x : ℕ) (r : Reached C) → IsLinked k m ask rows x r → r.steps ≡ 0 → IsFirst k ask x r
   is_first x r l h = elim l [ inl f ↦ f | inr n ↦ absurd (let s = n.steps in omega arith) ]
 
 -- writing a list from its last place to its first

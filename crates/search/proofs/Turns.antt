@@ -5,13 +5,13 @@ use Rattle.std.proofs.Common.{◌≡◌, ℕ, zero, suc, ◌+◌, ◌<◌, ◌�
 use mathlib.Core.Path.{fun_ext}
 use Rattle.std.specs.List.{slice_get}
 use Rattle.std.proofs.lemmas.Bool.{cases_eq}
-use Rattle.site.specs.declared.run.Request.{Request}
-use Rattle.site.specs.Meaning.{SiteMeaning}
-use Rattle.charge.specs.Kind.{Kind}
-use Rattle.queue.specs.Waits.{Put, Taken}
+use Rattle.subject.specs.declared.run.Request.{Request}
+use Rattle.subject.specs.Sites.{SiteMeaning}
+use Rattle.subject.specs.Charges.{Kind}
+use Rattle.subject.specs.Queues.{IsPut, IsTaken}
 use Rattle.search.specs.Cells.{place_of, loss_of}
-use Rattle.search.specs.Search.{Laws, Expanding, Searching, Covered, Keeps}
-use Rattle.search.specs.Rows.{settled_as, waits_as, settled_row, waits_row, reached_row, reached_in, done_in, one_if, settled_count, Next, Linked, Books, Turn, Offering, Settling, Found}
+use Rattle.search.specs.Search.{Laws, ExpandState, SearchState, IsCovered, CoverStays}
+use Rattle.search.specs.Rows.{settled_as, waits_as, settled_row, waits_row, reached_row, reached_in, done_in, one_if, settled_count, IsNext, IsLinked, Bookkeeping, TurnState, OfferOutcome, SettleOutcome, EndTaken}
 use Rattle.search.specs.Columns.{reached_as}
 use Rattle.search.specs.declared.cell.Cell.{Cell}
 use Rattle.search.specs.declared.cell.Cell.TheVariants.{Unseen, Waiting, Settled}
@@ -70,7 +70,7 @@ count_most (r ∷ rs) = let h = count_most rs in let o = one_most r in omega ari
 
 -- a link survives where the settled rows stay, since it leads to one of them
 linked_still : {C : Type 0} (k : Kind C) (m : SiteMeaning C) (ask : Request) (rows rows' : List (Cell C)) → ((z : ℕ) (r : Reached C) → slice_get rows z ≡ Some (Settled r) → slice_get rows' z ≡ Some (Settled r))
-    → (z : ℕ) (r : Reached C) → Linked k m ask rows z r → Linked k m ask rows' z r
+    → (z : ℕ) (r : Reached C) → IsLinked k m ask rows z r → IsLinked k m ask rows' z r
 linked_still k m ask rows rows' stays z r l = elim l [
   | inl f ↦ inl f
   | inr n ↦ inr (record {
@@ -97,7 +97,7 @@ count_short (q ∷ qs) zero r e =
 count_short (q ∷ qs) (suc at) r e = let h = count_short qs at r e in let o = one_most q in omega arith
 
 module _ {C : Type 0} (k : Kind C) (laws : Laws k) (m : SiteMeaning C) (ask : Request) (rows rows' : List (Cell C)) (waits waits' : ℕ → Option C) (at : ℕ) (new : Reached C)
-    (inside : at < length rows) (o : Offering k rows rows' waits waits' at new) where
+    (inside : at < length rows) (o : OfferOutcome k rows rows' waits waits' at new) where
   pub offer_done : (z : ℕ) → done_in rows' z ≡ done_in rows z
   unfolding done_in
   offer_done z = elim o.change [
@@ -121,7 +121,7 @@ module _ {C : Type 0} (k : Kind C) (laws : Laws k) (m : SiteMeaning C) (ask : Re
     | inr p ↦ ap (λ rs. slice_get rs z) p.0 ∙ nth_set_other rows at z (Waiting new) (λ q. none_some p.1 (ap (done_in rows) (sym q) ∙ done_row rows z r e)) ∙ e
   ]
 
-  linked_kept : (z : ℕ) (r : Reached C) → Linked k m ask rows z r → Linked k m ask rows' z r
+  linked_kept : (z : ℕ) (r : Reached C) → IsLinked k m ask rows z r → IsLinked k m ask rows' z r
   linked_kept = linked_still k m ask rows rows' offer_row
 
   -- each cell reached after the offer was reached so before, or is the one offered
@@ -143,8 +143,8 @@ module _ {C : Type 0} (k : Kind C) (laws : Laws k) (m : SiteMeaning C) (ask : Re
     ]
   ]
 
-  module _ (b : Books k m ask rows waits) (link : Next k m ask rows at new) (few : new.steps ≤ settled_count rows) where
-    pub offer_books : Books k m ask rows' waits'
+  module _ (b : Bookkeeping k m ask rows waits) (link : IsNext k m ask rows at new) (few : new.steps ≤ settled_count rows) where
+    pub offer_books : Bookkeeping k m ask rows' waits'
     offer_books = record {
       agree = o.agree;
       linked = λ z r e. elim (was z r e) [
@@ -158,21 +158,21 @@ module _ {C : Type 0} (k : Kind C) (laws : Laws k) (m : SiteMeaning C) (ask : Re
       fewer = λ z r e. (let f = b.fewer z r (was_settled z r e) in let c = offer_count in omega arith);
     }
 
-  pub offer_turn : (x : ℕ) (here : Reached C) → Turn k m ask rows waits x here → k.within here.charge new.charge ≡ true → Next k m ask rows at new → new.steps ≤ settled_count rows → Turn k m ask rows' waits' x here
+  pub offer_turn : (x : ℕ) (here : Reached C) → TurnState k m ask rows waits x here → k.within here.charge new.charge ≡ true → IsNext k m ask rows at new → new.steps ≤ settled_count rows → TurnState k m ask rows' waits' x here
   offer_turn x here turn up link few = record {
-    expanding = subst (λ d. Expanding k m ask d waits' x here.charge) (sym (fun_ext offer_done)) (offer_keeps k laws m ask (done_in rows) waits waits' at new.charge o.entered x here.charge up turn.expanding);
+    expanding = subst (λ d. ExpandState k m ask d waits' x here.charge) (sym (fun_ext offer_done)) (offer_keeps k laws m ask (done_in rows) waits waits' at new.charge o.entered x here.charge up turn.expanding);
     books = offer_books turn.books link few;
     row = offer_row x here turn.row;
   }
 
-  pub offer_covered_at : (p l : ℕ) → place_of ask at ≡ p → loss_of ask at ≡ l → Covered k ask (done_in rows') waits' p l new.charge
-  offer_covered_at p l a b = subst (λ d. Covered k ask d waits' p l new.charge) (sym (fun_ext offer_done)) (offer_covers k laws m ask (done_in rows) waits waits' at new.charge o.entered p l a b)
+  pub offer_covered_at : (p l : ℕ) → place_of ask at ≡ p → loss_of ask at ≡ l → IsCovered k ask (done_in rows') waits' p l new.charge
+  offer_covered_at p l a b = subst (λ d. IsCovered k ask d waits' p l new.charge) (sym (fun_ext offer_done)) (offer_covers k laws m ask (done_in rows) waits waits' at new.charge o.entered p l a b)
 
-  pub offer_covered_on : Keeps k ask (done_in rows) waits (done_in rows') waits'
-  offer_covered_on p l sum h = subst (λ d. Covered k ask d waits' p l sum) (sym (fun_ext offer_done)) (offer_covered k laws m ask (done_in rows) waits waits' at new.charge o.entered h)
+  pub offer_covered_on : CoverStays k ask (done_in rows) waits (done_in rows') waits'
+  offer_covered_on p l sum h = subst (λ d. IsCovered k ask d waits' p l sum) (sym (fun_ext offer_done)) (offer_covered k laws m ask (done_in rows) waits waits' at new.charge o.entered h)
 
 module _ {C : Type 0} (k : Kind C) (laws : Laws k) (m : SiteMeaning C) (ask : Request) (rows rows' : List (Cell C)) (waits waits' : ℕ → Option C) (at : ℕ) (c : C) (here : Reached C)
-    (inside : at < length rows) (b : Books k m ask rows waits) (taken : Taken k.within waits waits' at c) (s : Settling rows rows' at here) where
+    (inside : at < length rows) (b : Bookkeeping k m ask rows waits) (taken : IsTaken k.within waits waits' at c) (s : SettleOutcome rows rows' at here) where
   was_waiting : (slice_get rows at ≡ Some (Waiting here)) × (here.charge ≡ c)
   was_waiting =
       let w = row_waits rows at c (sym (b.agree at) ∙ taken.waited) in
@@ -188,7 +188,7 @@ module _ {C : Type 0} (k : Kind C) (laws : Laws k) (m : SiteMeaning C) (ask : Re
   pub settle_count : settled_count rows' ≡ settled_count rows + 1
   settle_count = ap settled_count s.written ∙ count_more rows at here here was_waiting.0
 
-  settle_put : Put (done_in rows) (done_in rows') at c
+  settle_put : IsPut (done_in rows) (done_in rows') at c
   unfolding done_in
   settle_put = record {
     here = done_row rows' at here here_row ∙ ap Some was_waiting.1;
@@ -202,7 +202,7 @@ module _ {C : Type 0} (k : Kind C) (laws : Laws k) (m : SiteMeaning C) (ask : Re
   settled_row_stays : (z : ℕ) (r : Reached C) → slice_get rows z ≡ Some (Settled r) → slice_get rows' z ≡ Some (Settled r)
   settled_row_stays z r e = other_row z (λ a. none_some fresh (ap (done_in rows) (sym a) ∙ done_row rows z r e)) ∙ e
 
-  kept_linked : (z : ℕ) (r : Reached C) → Linked k m ask rows z r → Linked k m ask rows' z r
+  kept_linked : (z : ℕ) (r : Reached C) → IsLinked k m ask rows z r → IsLinked k m ask rows' z r
   kept_linked = linked_still k m ask rows rows' settled_row_stays
 
   -- settling a cell changes nothing of how any cell was reached
@@ -212,7 +212,7 @@ module _ {C : Type 0} (k : Kind C) (laws : Laws k) (m : SiteMeaning C) (ask : Re
     | inr ne ↦ ap reached_row (sym (other_row z ne))
   ]
 
-  settle_books : Books k m ask rows' waits'
+  settle_books : Bookkeeping k m ask rows' waits'
   settle_books = record {
     agree = λ x. elim (cases_eq x at) [
       | inl e ↦ ap waits' e ∙ taken.gone ∙ sym (ap waits_row here_row) ∙ ap (λ y. waits_row (slice_get rows' y)) (sym e)
@@ -223,9 +223,9 @@ module _ {C : Type 0} (k : Kind C) (laws : Laws k) (m : SiteMeaning C) (ask : Re
     fewer = λ z r e. (let f = b.few z r (reached_same z ∙ ap reached_row e) in let n = settle_count in omega arith);
   }
 
-  pub settle_turn : Searching k m ask (done_in rows) waits → place_of ask at ≢ ask.end → Turn k m ask rows' waits' at here
+  pub settle_turn : SearchState k m ask (done_in rows) waits → place_of ask at ≢ ask.end → TurnState k m ask rows' waits' at here
   settle_turn inv ne = record {
-    expanding = subst (λ d. Expanding k m ask (done_in rows') waits' at d) (sym was_waiting.1) (take_keeps k laws m ask (done_in rows) waits (done_in rows') waits' at c inv fresh taken settle_put ne);
+    expanding = subst (λ d. ExpandState k m ask (done_in rows') waits' at d) (sym was_waiting.1) (take_keeps k laws m ask (done_in rows) waits (done_in rows') waits' at c inv fresh taken settle_put ne);
     books = settle_books;
     row = here_row;
   }
@@ -237,7 +237,7 @@ nth_inside (y ∷ ys) (suc i) x e = let h = nth_inside ys i x e in omega arith
 
 -- a taken cell: it has a waiting row, and where it is one of the end the search has found its run
 module _ {C : Type 0} (k : Kind C) (laws : Laws k) (m : SiteMeaning C) (ask : Request) (rows : List (Cell C)) (waits waits' : ℕ → Option C) (at : ℕ) (c : C)
-    (b : Books k m ask rows waits) (taken : Taken k.within waits waits' at c) where
+    (b : Bookkeeping k m ask rows waits) (taken : IsTaken k.within waits waits' at c) where
   pub taken_row : (r : Reached C) × (slice_get rows at ≡ Some (Waiting r)) × (r.charge ≡ c)
   taken_row = row_waits rows at c (sym (b.agree at) ∙ taken.waited)
 
@@ -250,7 +250,7 @@ module _ {C : Type 0} (k : Kind C) (laws : Laws k) (m : SiteMeaning C) (ask : Re
   pub taken_short : settled_count rows < length rows
   taken_short = count_short rows at taken_row.0 taken_row.1
 
-  pub taken_found : Searching k m ask (done_in rows) waits → place_of ask at ≡ ask.end → Found k m ask rows at
+  pub taken_found : SearchState k m ask (done_in rows) waits → place_of ask at ≡ ask.end → EndTaken k m ask rows at
   taken_found inv e =
       let w = taken_row in
       record {
@@ -265,7 +265,7 @@ module _ {C : Type 0} (k : Kind C) (laws : Laws k) (m : SiteMeaning C) (ask : Re
 -- the beginning: one row waits, and no other was reached
 module _ {C : Type 0} (k : Kind C) (laws : Laws k) (m : SiteMeaning C) (ask : Request) (rows rows' : List (Cell C)) (empty waits : ℕ → Option C) (at : ℕ) (new : Reached C)
     (inside : at < length rows) (blank : (x : ℕ) (c : Cell C) → slice_get rows x ≡ Some c → c ≡ Unseen) (written : rows' ≡ set rows at (Waiting new)) (none : (x : ℕ) → empty x ≡ None)
-    (put : Put empty waits at k.free) (charge : new.charge ≡ k.free) (link : new.link ≡ None) (steps : new.steps ≡ 0) (place : place_of ask at ≡ ask.start) (loss : loss_of ask at ≡ 0) where
+    (put : IsPut empty waits at k.free) (charge : new.charge ≡ k.free) (link : new.link ≡ None) (steps : new.steps ≡ 0) (place : place_of ask at ≡ ask.start) (loss : loss_of ask at ≡ 0) where
   new_row : slice_get rows' at ≡ Some (Waiting new)
   new_row = ap (λ rs. slice_get rs at) written ∙ nth_set_same rows at (Waiting new) inside
 
@@ -290,7 +290,7 @@ module _ {C : Type 0} (k : Kind C) (laws : Laws k) (m : SiteMeaning C) (ask : Re
     | inr ne ↦ absurd (none_some (other_rows x ne).2 e)
   ]
 
-  pub start_books : Books k m ask rows' waits
+  pub start_books : Bookkeeping k m ask rows' waits
   start_books = record {
     agree = λ x. elim (cases_eq x at) [
       | inl a ↦ ap waits a ∙ put.here ∙ ap Some (sym charge) ∙ sym (ap waits_row new_row) ∙ ap (λ y. waits_row (slice_get rows' y)) (sym a)
@@ -303,5 +303,5 @@ module _ {C : Type 0} (k : Kind C) (laws : Laws k) (m : SiteMeaning C) (ask : Re
     fewer = λ x r e. absurd (none_some (none_done x) (done_row rows' x r e));
   }
 
-  pub start_search : Searching k m ask (done_in rows') waits
+  pub start_search : SearchState k m ask (done_in rows') waits
   start_search = start_holds k laws m ask (done_in rows') waits at none_done (record { here = put.here; others = λ x ne. put.others x ne ∙ none x }) place loss

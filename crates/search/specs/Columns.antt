@@ -3,7 +3,7 @@ use Rattle.std.specs.Prelude.{◌≡◌, ℕ, List, map, Some, None, Option}
 use Rattle.search.specs.declared.cell.Cell.{Cell}
 use Rattle.search.specs.declared.cell.Cell.TheVariants.{Unseen, Waiting, Settled}
 use Rattle.search.specs.declared.cell.Reached.{Reached}
-use Rattle.search.specs.declared.cell.Row.{Row}
+use Rattle.search.specs.declared.cell.CellRow.{Row}
 
 abbrev pub cells_of : {C : Type 0} → List (Row C) → List (Cell C)
 cells_of rows = map (λ r. r.cell) rows

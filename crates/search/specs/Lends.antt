@@ -1,18 +1,18 @@
 -- What a caller lends to a plan, as the rows and the queue behind its references. Stands on nothing but the rows.
 use Rattle.std.specs.Prelude.{◌≡◌, List, length}
 use Rattle.std.specs.Borrow.{GName}
-use Rattle.site.specs.declared.run.Step.{Step}
-use Rattle.search.specs.declared.cell.Row.{Row}
+use Rattle.subject.specs.declared.run.Step.{Step}
+use Rattle.search.specs.declared.cell.CellRow.{Row}
 use Rattle.search.specs.declared.memory.Memory.{Memory}
 
 -- cell rows, a queue and run rows
-pub record Lent (C Q : Type 0) : Type 0 where
+pub record LentMemory (C Q : Type 0) : Type 0 where
   pub cells : List (Row C)
   pub queue : Q
   pub run : List Step
 
-abbrev pub lent : {C Q : Type 0} → Memory C Q → Lent C Q
-lent m = record { cells = m.cells.now; queue = m.queue; run = m.run.now }
+abbrev pub lent_memory : {C Q : Type 0} → Memory C Q → LentMemory C Q
+lent_memory m = record { cells = m.cells.now; queue = m.queue; run = m.run.now }
 
 -- the same rows are lent as before, as many of them; `lenders x` are the references behind which the rows of a queue x lie
 pub record SameLenders {C Q : Type 0} (lenders : Q → List GName) (m m' : Memory C Q) : Type 0 where

@@ -5,3 +5,4 @@ pub mod Rows
 pub mod Columns
 pub mod Index
 pub mod Lends
+pub mod Fillings

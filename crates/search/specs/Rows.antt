@@ -2,14 +2,14 @@
 -- that they tell. Stands on the search's state.
 use Rattle.std.specs.Prelude.{◌≡◌, ℕ, ◌+◌, ◌*◌, ◌^◌, ◌<◌, ◌≤◌, Bool, true, false, not, ◌⊎◌, List, [], ◌∷◌, length, Some, None, Option, slice_set}
 use Rattle.std.specs.List.{slice_get}
-use Rattle.charge.specs.Kind.{Kind}
-use Rattle.site.specs.declared.way.Way.{Way}
-use Rattle.site.specs.declared.run.Step.{Step}
-use Rattle.site.specs.declared.run.Request.{Request}
-use Rattle.site.specs.Meaning.{SiteMeaning}
-use Rattle.site.specs.Runs.{Goes, loss_after, after_way, Lowest, Lawful, total_from, Avoids, NoneTwice, Run, total}
+use Rattle.subject.specs.Charges.{Kind}
+use Rattle.subject.specs.declared.way.Way.{Way}
+use Rattle.subject.specs.declared.run.Step.{Step}
+use Rattle.subject.specs.declared.run.Request.{Request}
+use Rattle.subject.specs.Sites.{SiteMeaning}
+use Rattle.subject.specs.Runs.{IsStepOver, loss_after, after_way, IsLowest, IsLawful, total_from, IsAvoided, NoneTwice, IsRun, total}
 use Rattle.search.specs.Cells.{place_of, loss_of}
-use Rattle.search.specs.Search.{Expanding, Entered}
+use Rattle.search.specs.Search.{ExpandState, EnterOutcome}
 use Rattle.search.specs.Columns.{reached_as}
 use Rattle.search.specs.declared.cell.Cell.{Cell}
 use Rattle.search.specs.declared.cell.Cell.TheVariants.{Unseen, Waiting, Settled}
@@ -47,8 +47,8 @@ abbrev pub reached_in : {C : Type 0} → List (Cell C) → ℕ → Option (Reach
 reached_in rows x = reached_row (slice_get rows x)
 
 -- the queue holds just the cells whose rows say that they wait
-abbrev pub Agree : {C : Type 0} → List (Cell C) → (ℕ → Option C) → Type 0
-Agree rows waits = (x : ℕ) → waits x ≡ waits_row (slice_get rows x)
+abbrev pub QueueAgrees : {C : Type 0} → List (Cell C) → (ℕ → Option C) → Type 0
+QueueAgrees rows waits = (x : ℕ) → waits x ≡ waits_row (slice_get rows x)
 
 abbrev pub one_if : {C : Type 0} → Cell C → ℕ
 one_if Unseen = 0
@@ -61,7 +61,7 @@ settled_count [] = 0
 settled_count (c ∷ cs) = one_if c + settled_count cs
 
 -- the cell x is the one in which the run starts, and r tells so
-pub record First {C : Type 0} (k : Kind C) (ask : Request) (x : ℕ) (r : Reached C) : Type 0 where
+pub record IsFirst {C : Type 0} (k : Kind C) (ask : Request) (x : ℕ) (r : Reached C) : Type 0 where
   pub place : place_of ask x ≡ ask.start
   pub loss : loss_of ask x ≡ 0
   pub link : r.link ≡ None
@@ -69,44 +69,44 @@ pub record First {C : Type 0} (k : Kind C) (ask : Request) (x : ℕ) (r : Reache
   pub charge : r.charge ≡ k.free
 
 -- r tells a lawful step to the cell x from a settled cell, and has that cell's charge and steps with the step's added
-pub record Next {C : Type 0} (k : Kind C) (m : SiteMeaning C) (ask : Request) (rows : List (Cell C)) (x : ℕ) (r : Reached C) : Type 0 where
+pub record IsNext {C : Type 0} (k : Kind C) (m : SiteMeaning C) (ask : Request) (rows : List (Cell C)) (x : ℕ) (r : Reached C) : Type 0 where
   pub by : Link
   pub link : r.link ≡ Some by
   pub before : Reached C
   pub row : slice_get rows by.from ≡ Some (Settled before)
   pub over : Way C
-  pub goes : Goes m ask (place_of ask by.from) (loss_of ask by.from) by.step over
+  pub goes : IsStepOver m ask (place_of ask by.from) (loss_of ask by.from) by.step over
   pub place : place_of ask x ≡ over.to
   pub loss : loss_of ask x ≡ loss_after by.step.mark (loss_of ask by.from + over.loss)
   pub charge : r.charge ≡ after_way k m before.charge by.step.mark (Some over)
   pub steps : r.steps ≡ before.steps + 1
 
-abbrev pub Linked : {C : Type 0} → Kind C → SiteMeaning C → Request → List (Cell C) → ℕ → Reached C → Type 0
-Linked k m ask rows x r = First k ask x r ⊎ Next k m ask rows x r
+abbrev pub IsLinked : {C : Type 0} → Kind C → SiteMeaning C → Request → List (Cell C) → ℕ → Reached C → Type 0
+IsLinked k m ask rows x r = IsFirst k ask x r ⊎ IsNext k m ask rows x r
 
 -- rows and queue agree; each cell that was reached tells how; and its steps are no more than the settled rows, less than
 -- them where it is one of them
-pub record Books {C : Type 0} (k : Kind C) (m : SiteMeaning C) (ask : Request) (rows : List (Cell C)) (waits : ℕ → Option C) : Type 0 where
-  pub agree : Agree rows waits
-  pub linked : (x : ℕ) (r : Reached C) → reached_in rows x ≡ Some r → Linked k m ask rows x r
+pub record Bookkeeping {C : Type 0} (k : Kind C) (m : SiteMeaning C) (ask : Request) (rows : List (Cell C)) (waits : ℕ → Option C) : Type 0 where
+  pub agree : QueueAgrees rows waits
+  pub linked : (x : ℕ) (r : Reached C) → reached_in rows x ≡ Some r → IsLinked k m ask rows x r
   pub few : (x : ℕ) (r : Reached C) → reached_in rows x ≡ Some r → r.steps ≤ settled_count rows
   pub fewer : (x : ℕ) (r : Reached C) → slice_get rows x ≡ Some (Settled r) → r.steps < settled_count rows
 
 -- what holds while the ways out of the cell x, which was settled as `here`, are being offered
-pub record Turn {C : Type 0} (k : Kind C) (m : SiteMeaning C) (ask : Request) (rows : List (Cell C)) (waits : ℕ → Option C) (x : ℕ) (here : Reached C) : Type 0 where
-  pub expanding : Expanding k m ask (done_in rows) waits x here.charge
-  pub books : Books k m ask rows waits
+pub record TurnState {C : Type 0} (k : Kind C) (m : SiteMeaning C) (ask : Request) (rows : List (Cell C)) (waits : ℕ → Option C) (x : ℕ) (here : Reached C) : Type 0 where
+  pub expanding : ExpandState k m ask (done_in rows) waits x here.charge
+  pub books : Bookkeeping k m ask rows waits
   pub row : slice_get rows x ≡ Some (Settled here)
 
 -- what an offer leaves, to let the cell `at` wait as reached by `new`: it is written there, over a row that is not
 -- settled, or nothing is
-pub record Offering {C : Type 0} (k : Kind C) (rows rows' : List (Cell C)) (waits waits' : ℕ → Option C) (at : ℕ) (new : Reached C) : Type 0 where
-  pub entered : Entered k (done_in rows) waits waits' at new.charge
-  pub agree : Agree rows' waits'
+pub record OfferOutcome {C : Type 0} (k : Kind C) (rows rows' : List (Cell C)) (waits waits' : ℕ → Option C) (at : ℕ) (new : Reached C) : Type 0 where
+  pub entered : EnterOutcome k (done_in rows) waits waits' at new.charge
+  pub agree : QueueAgrees rows' waits'
   pub change : (rows' ≡ rows) ⊎ ((rows' ≡ slice_set rows at (Waiting new)) × (done_in rows at ≡ None))
 
 -- the rows and the queue have room for every cell of the request
-pub record Room {C : Type 0} (m : SiteMeaning C) (ask : Request) (rows many : ℕ) : Type 0 where
+pub record RoomSuffices {C : Type 0} (m : SiteMeaning C) (ask : Request) (rows many : ℕ) : Type 0 where
   pub bound : ask.bound ≤ 1000
   pub fits : rows < 2 ^ 64
   pub rows_suffice : m.places * (ask.bound + 1) ≤ rows
@@ -119,29 +119,29 @@ improves k (Waiting r) c = not (k.within r.charge c)
 improves k (Settled r) c = false
 
 -- the cell `at`, which was reached as `here` tells, is settled so
-pub record Settling {C : Type 0} (rows rows' : List (Cell C)) (at : ℕ) (here : Reached C) : Type 0 where
+pub record SettleOutcome {C : Type 0} (rows rows' : List (Cell C)) (at : ℕ) (here : Reached C) : Type 0 where
   pub was : reached_in rows at ≡ Some here
   pub written : rows' ≡ slice_set rows at (Settled here)
 
 -- the cell x of the end was taken: no lawful run has a lower total than its charge, and the rows tell how it was reached
-pub record Found {C : Type 0} (k : Kind C) (m : SiteMeaning C) (ask : Request) (rows : List (Cell C)) (x : ℕ) : Type 0 where
+pub record EndTaken {C : Type 0} (k : Kind C) (m : SiteMeaning C) (ask : Request) (rows : List (Cell C)) (x : ℕ) : Type 0 where
   pub last : Reached C
   pub row : reached_in rows x ≡ Some last
   pub end : place_of ask x ≡ ask.end
-  pub lowest : Lowest k m ask last.charge
-  pub linked : (y : ℕ) (r : Reached C) → reached_in rows y ≡ Some r → Linked k m ask rows y r
+  pub lowest : IsLowest k m ask last.charge
+  pub linked : (y : ℕ) (r : Reached C) → reached_in rows y ≡ Some r → IsLinked k m ask rows y r
   pub few : last.steps < length rows
 
 -- the steps `rest` lead on lawfully from the cell x, which was reached as r tells, to the end, where the total is sum; they leave no cell
 -- twice, and no cell that has fewer steps than r
 pub record Trail {C : Type 0} (k : Kind C) (m : SiteMeaning C) (ask : Request) (rows : List (Cell C)) (x : ℕ) (r : Reached C) (rest : List Step) (sum : C) : Type 0 where
-  pub lawful : Lawful m ask (place_of ask x) (loss_of ask x) rest
+  pub lawful : IsLawful m ask (place_of ask x) (loss_of ask x) rest
   pub comes_to : total_from k m r.charge rest ≡ sum
-  pub avoids : (y : ℕ) (q : Reached C) → reached_in rows y ≡ Some q → q.steps < r.steps → Avoids m (place_of ask y) (loss_of ask y) (place_of ask x) (loss_of ask x) rest
+  pub avoids : (y : ℕ) (q : Reached C) → reached_in rows y ≡ Some q → q.steps < r.steps → IsAvoided m (place_of ask y) (loss_of ask y) (place_of ask x) (loss_of ask x) rest
   pub once : NoneTwice m (place_of ask x) (loss_of ask x) rest
 
 -- a lawful run with its total, which leaves no place twice with the same loss
-pub record Whole {C : Type 0} (k : Kind C) (m : SiteMeaning C) (ask : Request) (run : List Step) (sum : C) : Type 0 where
-  pub lawful : Run m ask run
+pub record WholeRun {C : Type 0} (k : Kind C) (m : SiteMeaning C) (ask : Request) (run : List Step) (sum : C) : Type 0 where
+  pub lawful : IsRun m ask run
   pub comes_to : sum ≡ total k m run
   pub once : NoneTwice m ask.start 0 run

@@ -1,12 +1,12 @@
 -- The state of a search, as two maps from cell numbers to charges, `done` for the settled cells and `waits` for those in
 -- the queue; and what the search keeps true of it. Stands on runs and cells.
 use Rattle.std.specs.Prelude.{◌≡◌, ℕ, ◌+◌, ◌≤◌, Bool, true, false, ◌≢◌, ◌⊎◌, Some, Option}
-use Rattle.charge.specs.Kind.{Kind}
-use Rattle.site.specs.declared.way.Way.{Way}
-use Rattle.site.specs.declared.run.Step.{Step}
-use Rattle.site.specs.declared.run.Request.{Request}
-use Rattle.site.specs.Meaning.{SiteMeaning}
-use Rattle.site.specs.Runs.{Goes, loss_after, after_way}
+use Rattle.subject.specs.Charges.{Kind}
+use Rattle.subject.specs.declared.way.Way.{Way}
+use Rattle.subject.specs.declared.run.Step.{Step}
+use Rattle.subject.specs.declared.run.Request.{Request}
+use Rattle.subject.specs.Sites.{SiteMeaning}
+use Rattle.subject.specs.Runs.{IsStepOver, loss_after, after_way}
 use Rattle.search.specs.Cells.{place_of, loss_of}
 
 -- the laws of a charge kind, as far as the search counts on them
@@ -18,7 +18,7 @@ pub record Laws {C : Type 0} (k : Kind C) : Type 0 where
 
 -- to stand at the place p with the loss l and the total sum is covered: some cell of that place with no more loss, settled
 -- or waiting, has a charge that is no more than sum
-pub record Covered {C : Type 0} (k : Kind C) (ask : Request) (done waits : ℕ → Option C) (p l : ℕ) (sum : C) : Type 0 where
+pub record IsCovered {C : Type 0} (k : Kind C) (ask : Request) (done waits : ℕ → Option C) (p l : ℕ) (sum : C) : Type 0 where
   pub cell : ℕ
   pub charge : C
   pub place : place_of ask cell ≡ p
@@ -30,26 +30,26 @@ abbrev pub step_of : ℕ → Bool → Step
 step_of n b = record { way = n; mark = b }
 
 -- the way n has been offered from the cell x with the charge c: wherever it lawfully leads from there is covered
-abbrev pub Offered : {C : Type 0} → Kind C → SiteMeaning C → Request → (ℕ → Option C) → (ℕ → Option C) → ℕ → C → ℕ → Type 0
-Offered {C} k m ask done waits x c n = (mark : Bool) (w : Way C) → Goes m ask (place_of ask x) (loss_of ask x) (step_of n mark) w → Covered k ask done waits w.to (loss_after mark (loss_of ask x + w.loss)) (after_way k m c mark (Some w))
+abbrev pub IsOffered : {C : Type 0} → Kind C → SiteMeaning C → Request → (ℕ → Option C) → (ℕ → Option C) → ℕ → C → ℕ → Type 0
+IsOffered {C} k m ask done waits x c n = (mark : Bool) (w : Way C) → IsStepOver m ask (place_of ask x) (loss_of ask x) (step_of n mark) w → IsCovered k ask done waits w.to (loss_after mark (loss_of ask x + w.loss)) (after_way k m c mark (Some w))
 
 -- what holds each time that a cell is to be taken
-pub record Searching {C : Type 0} (k : Kind C) (m : SiteMeaning C) (ask : Request) (done waits : ℕ → Option C) : Type 0 where
+pub record SearchState {C : Type 0} (k : Kind C) (m : SiteMeaning C) (ask : Request) (done waits : ℕ → Option C) : Type 0 where
   -- the start is covered
-  pub started : Covered k ask done waits ask.start 0 k.free
+  pub started : IsCovered k ask done waits ask.start 0 k.free
   -- every way has been offered from every settled cell
-  pub offered : (x : ℕ) (c : C) → done x ≡ Some c → (n : ℕ) → Offered k m ask done waits x c n
+  pub offered : (x : ℕ) (c : C) → done x ≡ Some c → (n : ℕ) → IsOffered k m ask done waits x c n
   -- settled charges are no more than waiting ones
   pub ordered : (x y : ℕ) (c d : C) → done x ≡ Some c → waits y ≡ Some d → k.within c d ≡ true
   -- no cell of the end is settled
   pub open_end : (x : ℕ) (c : C) → done x ≡ Some c → place_of ask x ≢ ask.end
 
 -- what holds while the ways out of the cell x, which was settled with c, are being offered
-pub record Expanding {C : Type 0} (k : Kind C) (m : SiteMeaning C) (ask : Request) (done waits : ℕ → Option C) (x : ℕ) (c : C) : Type 0 where
-  pub started : Covered k ask done waits ask.start 0 k.free
+pub record ExpandState {C : Type 0} (k : Kind C) (m : SiteMeaning C) (ask : Request) (done waits : ℕ → Option C) (x : ℕ) (c : C) : Type 0 where
+  pub started : IsCovered k ask done waits ask.start 0 k.free
   pub settled : done x ≡ Some c
   -- every way has been offered from every other settled cell
-  pub offered : (y : ℕ) (d : C) → done y ≡ Some d → y ≢ x → (i : ℕ) → Offered k m ask done waits y d i
+  pub offered : (y : ℕ) (d : C) → done y ≡ Some d → y ≢ x → (i : ℕ) → IsOffered k m ask done waits y d i
   -- c lies between the settled charges and the waiting ones
   pub below : (y : ℕ) (d : C) → done y ≡ Some d → k.within d c ≡ true
   pub above : (y : ℕ) (d : C) → waits y ≡ Some d → k.within c d ≡ true
@@ -57,7 +57,7 @@ pub record Expanding {C : Type 0} (k : Kind C) (m : SiteMeaning C) (ask : Reques
 
 -- what an offer of the charge d to the cell y does to the waiting cells: y is held with no more than d, a charge that
 -- waited there gave way to no higher one, and every other cell is as it was
-pub record Entered {C : Type 0} (k : Kind C) (done before after : ℕ → Option C) (y : ℕ) (d : C) : Type 0 where
+pub record EnterOutcome {C : Type 0} (k : Kind C) (done before after : ℕ → Option C) (y : ℕ) (d : C) : Type 0 where
   pub charge : C
   pub low : k.within charge d ≡ true
   pub held : (done y ≡ Some charge) ⊎ (after y ≡ Some charge)
@@ -66,11 +66,11 @@ pub record Entered {C : Type 0} (k : Kind C) (done before after : ℕ → Option
   pub others : (z : ℕ) → z ≢ y → after z ≡ before z
 
 -- whatever was covered is covered still
-abbrev pub Keeps : {C : Type 0} → Kind C → Request → (ℕ → Option C) → (ℕ → Option C) → (ℕ → Option C) → (ℕ → Option C) → Type 0
-Keeps {C} k ask done waits done' waits' = (p l : ℕ) (sum : C) → Covered k ask done waits p l sum → Covered k ask done' waits' p l sum
+abbrev pub CoverStays : {C : Type 0} → Kind C → Request → (ℕ → Option C) → (ℕ → Option C) → (ℕ → Option C) → (ℕ → Option C) → Type 0
+CoverStays {C} k ask done waits done' waits' = (p l : ℕ) (sum : C) → IsCovered k ask done waits p l sum → IsCovered k ask done' waits' p l sum
 
 -- another cell of the same place is settled, with no more loss
-pub record Dominated {C : Type 0} (ask : Request) (done : ℕ → Option C) (x : ℕ) : Type 0 where
+pub record IsDominated {C : Type 0} (ask : Request) (done : ℕ → Option C) (x : ℕ) : Type 0 where
   pub cell : ℕ
   pub charge : C
   pub settled : done cell ≡ Some charge

@@ -1,7 +1,7 @@
 ghost use Rattle.std.specs.Prelude.{◌≡◌};
 ghost use Rattle.search.specs.Columns.{blank_row, reached_as};
 
-use site::run::Step;
+use subject::run::Step;
 
 // The last step over which a cell was reached, and the cell that it was taken from.
 #[derive(Clone, Copy)]

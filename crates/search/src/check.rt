@@ -1,13 +1,13 @@
 ghost use Rattle.std.specs.Prelude.{◌≡◌, MatchResult};
-ghost use Rattle.search.specs.Checks.{needed, PlacesStand, BoundStands, AskedWrong, Passed, Stopped};
+ghost use Rattle.search.specs.Checks.{needed_rows, PlacesExist, BoundInRange, RequestCause, ChecksPass, FirstCause};
 
-use refusal::Refusal;
-use site::run::Request;
-use site::site::Site;
+use subject::refusal::Refusal;
+use subject::run::Request;
+use subject::site::Site;
 
 // Whether the start and the end are places, of so many, and the bound is 1 to 1,000; or the first cause that is not so.
 pub fn check_request(places: usize, request: Request) -> Result<(), Refusal>
-    ensures { MatchResult result (λ _. PlacesStand places request × BoundStands request) (λ e. AskedWrong places request e) }
+    ensures { MatchResult result (λ _. PlacesExist places request × BoundInRange request) (λ e. RequestCause places request e) }
 {
     if request.start >= places || request.end >= places {
         return Err(Refusal::NoSuchPlace);
@@ -28,7 +28,7 @@ pub fn rows_needed<S: Site>(
     many: usize,
     steps: usize,
 ) -> Result<usize, Refusal>
-    ensures { MatchResult result (λ n. Passed (S.Site.meaning site.now).places request cells many steps × (n ≡ needed (S.Site.meaning site.now).places request)) (λ e. Stopped (S.Site.meaning site.now).places request cells many steps e) }
+    ensures { MatchResult result (λ n. ChecksPass (S.Site.meaning site.now).places request cells many steps × (n ≡ needed_rows (S.Site.meaning site.now).places request)) (λ e. FirstCause (S.Site.meaning site.now).places request cells many steps e) }
 {
     let places = site.places();
     check_request(places, request)?;

@@ -1,12 +1,12 @@
 // One step of a run: over a way, with a mark where it arrives or without.
 ghost use Rattle.std.specs.Prelude.{◌≡◌, ◌+◌, ◌<◌, ◌≤◌, true, false, Some};
-ghost use Rattle.site.specs.Runs.{after_way, loss_after, Markable};
-ghost use Rattle.site.specs.Whole.{kind_of};
+ghost use Rattle.subject.specs.Runs.{after_way, loss_after, IsMarkable};
+ghost use Rattle.subject.specs.Charges.{kind_of};
 
-use charge::kind::Charge;
-use site::run::Request;
-use site::site::Site;
-use site::way::Way;
+use subject::charge::Charge;
+use subject::run::Request;
+use subject::site::Site;
+use subject::way::Way;
 
 // A sum with the charge of a way joined to it and then, if marked, that of the repeater where the way arrives.
 pub fn charge_after<S: Site>(site: &S, sum: S::Charge, mark: bool, w: Way<S::Charge>) -> S::Charge
@@ -22,8 +22,8 @@ pub fn charge_after<S: Site>(site: &S, sum: S::Charge, mark: bool, w: Way<S::Cha
 
 // Whether a repeater may be marked at a place: one can stand there, and it is neither the start nor the end.
 pub fn markable<S: Site>(site: &S, request: Request, place: usize) -> bool
-    ensures yes { result ≡ true → Markable (S.Site.meaning site.now) request place }
-    ensures back { Markable (S.Site.meaning site.now) request place → result ≡ true }
+    ensures yes { result ≡ true → IsMarkable (S.Site.meaning site.now) request place }
+    ensures back { IsMarkable (S.Site.meaning site.now) request place → result ≡ true }
 {
     place != request.start && place != request.end && site.repeater(place).is_some()
 }

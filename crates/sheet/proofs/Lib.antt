@@ -1,2 +1,5 @@
 pub mod Growing
 pub mod Stepping
+pub mod Drawn
+mod Fills
+mod Fronts

@@ -2,12 +2,12 @@
 -- far is within the bound, and its lines are what is left of the lines.
 use Rattle.std.proofs.Common.{◌≡◌, ℕ, ◌+◌, ◌<◌, ◌≤◌, false, List, [], ◌∷◌, ◌++◌, length, get_or, drop, Ok, sym, refl, ap, ◌∙◌, subst, arith}
 use Rattle.std.proofs.lemmas.List.{drop_more, append_assoc, length-append}
-use Rattle.byte_slices.specs.Lay.{placed, over}
-use Rattle.byte_slices.proofs.Laid.{placed_ok, over_none, over_length, over_more}
-use Rattle.site.specs.declared.run.Step.{Step}
-use Rattle.site.specs.declared.run.Request.{Request}
-use Rattle.site.specs.Meaning.{SiteMeaning}
-use Rattle.site.specs.Runs.{Lawful, Run, loss_behind}
+use Rattle.survey_file.specs.Pieces.{put_answer, put_bytes}
+use Rattle.survey_file.proofs.Pieces.{placed_ok, over_none, over_length, over_more}
+use Rattle.subject.specs.declared.run.Step.{Step}
+use Rattle.subject.specs.declared.run.Request.{Request}
+use Rattle.subject.specs.Sites.{SiteMeaning}
+use Rattle.subject.specs.Runs.{IsLawful, IsRun, loss_behind}
 use Rattle.search.proofs.Trails.{after_low}
 use Rattle.sheet.specs.Sheet.{line_of, step_lines}
 
@@ -16,9 +16,9 @@ module _ {C : Type 0} (m : SiteMeaning C) (q : Request) (steps : List Step) wher
   pub record OnWay (loss : ℕ) (rest : List Step) : Type 0 where
     pub place : ℕ
     pub within : loss ≤ q.bound
-    pub lawful : Lawful m q place loss rest
+    pub lawful : IsLawful m q place loss rest
 
-  pub on_way_start : Run m q steps → OnWay 0 steps
+  pub on_way_start : IsRun m q steps → OnWay 0 steps
   on_way_start r = record { place = q.start; within = omega arith; lawful = r }
 
   -- a step further
@@ -30,7 +30,7 @@ module _ {C : Type 0} (m : SiteMeaning C) (q : Request) (steps : List Step) wher
       record {
         place = w.to;
         within = subst (λ x. loss_behind x s.mark loss ≤ q.bound) (sym open_is) (after_low q s.mark (loss + w.loss) _ l.1.arrives refl);
-        lawful = subst (λ x. Lawful m q w.to (loss_behind x s.mark loss) rest) (sym open_is) l.2;
+        lawful = subst (λ x. IsLawful m q w.to (loss_behind x s.mark loss) rest) (sym open_is) l.2;
       }
 
   abbrev pub step_at : ℕ → Step
@@ -41,7 +41,7 @@ module _ {C : Type 0} (m : SiteMeaning C) (q : Request) (steps : List Step) wher
     pub left : OnWay loss (drop i steps)
     pub lines : done ++ step_lines m loss (drop i steps) ≡ step_lines m 0 steps
 
-  pub lined_none : Run m q steps → Lined 0 0 []
+  pub lined_none : IsRun m q steps → Lined 0 0 []
   lined_none r = record { left = on_way_start r; lines = refl }
 
   pub lined_more : (loss i : ℕ) (done : List ℕ) → i < length steps → Lined loss i done
@@ -90,9 +90,9 @@ module _ {C : Type 0} (m : SiteMeaning C) (q : Request) (steps : List Step) wher
     pub done : List ℕ
     pub lined : Lined loss i done
     pub next : at ≡ start + length done
-    pub bytes : out ≡ over before start done
+    pub bytes : out ≡ put_bytes before start done
 
-  pub printed_none : (before : List ℕ) (start : ℕ) → start ≤ length before → Run m q steps → Printed before start 0 0 start before
+  pub printed_none : (before : List ℕ) (start : ℕ) → start ≤ length before → IsRun m q steps → Printed before start 0 0 start before
   printed_none before start h r = record { done = []; lined = lined_none r; next = omega arith; bytes = sym (over_none before start h) }
 
   module _ (before : List ℕ) (start loss i at : ℕ) (out line : List ℕ) (room : start + length (step_lines m 0 steps) ≤ length before) (h : i < length steps)
@@ -106,7 +106,7 @@ module _ {C : Type 0} (m : SiteMeaning C) (q : Request) (steps : List Step) wher
         let long = ap length c.bytes ∙ over_length before start c.done fits in
         omega arith
 
-    pub printed_more : (at' loss' : ℕ) (out' : List ℕ) → loss' ≡ loss_behind (m.way (step_at i).way) (step_at i).mark loss → Ok at' ≡ placed out at line → out' ≡ over out at line
+    pub printed_more : (at' loss' : ℕ) (out' : List ℕ) → loss' ≡ loss_behind (m.way (step_at i).way) (step_at i).mark loss → Ok at' ≡ put_answer out at line → out' ≡ put_bytes out at line
         → Printed before start loss' (i + 1) at' out'
     printed_more at' loss' out' behind answered laid =
         let text = line_of loss (step_at i) (m.way (step_at i).way) in
@@ -120,5 +120,5 @@ module _ {C : Type 0} (m : SiteMeaning C) (q : Request) (steps : List Step) wher
           done = c.done ++ text;
           lined = subst (λ l. Lined l (i + 1) (c.done ++ text)) (sym behind) (lined_more loss i c.done h c.lined);
           next = placed_at_lem.1 ∙ omega arith;
-          bytes = laid ∙ ap (over out at) is ∙ ap (λ o. over o at text) c.bytes ∙ over_more before start at c.done text here fits;
+          bytes = laid ∙ ap (put_bytes out at) is ∙ ap (λ o. put_bytes o at text) c.bytes ∙ over_more before start at c.done text here fits;
         }

@@ -3,3 +3,7 @@ pub mod Lines
 pub mod Refused
 pub mod Sheet
 pub mod Page
+pub mod Stands
+pub mod Filling
+pub mod Requests
+pub mod Printing

@@ -1,8 +1,8 @@
 -- The text of a refusal line. Stands on the numbers of the refusals.
 use Rattle.std.specs.Prelude.{ℕ, List, [], ◌∷◌, ◌++◌, codes, decimal}
-use Rattle.refusal.specs.declared.Refusal.{Refusal}
-use Rattle.refusal.specs.declared.Fault.{Fault}
-use Rattle.refusal.specs.Numbers.{number}
+use Rattle.subject.specs.declared.refusal.Refusal.{Refusal}
+use Rattle.subject.specs.declared.refusal.Fault.{Fault}
+use Rattle.subject.specs.Refusals.{number}
 
 -- a number in decimal, and a byte behind it
 abbrev pub number_then : ℕ → ℕ → List ℕ

@@ -1,13 +1,13 @@
 -- The text of the sheet of a run: a first line, a line for each step, and a last line. Byte 10 ends a line, and single
 -- spaces (byte 32) stand between. Stands on runs.
 use Rattle.std.specs.Prelude.{ℕ, ◌+◌, Bool, cond, List, [], ◌∷◌, ◌++◌, Some, None, codes, Option}
-use Rattle.charge.specs.declared.money.Money.{Money}
-use Rattle.charge.specs.Moneys as moneys
-use Rattle.site.specs.declared.way.Way.{Way}
-use Rattle.site.specs.declared.run.Step.{Step}
-use Rattle.site.specs.declared.run.Request.{Request}
-use Rattle.site.specs.Meaning.{SiteMeaning}
-use Rattle.site.specs.Runs.{loss_behind, total}
+use Rattle.subject.specs.declared.money.Money.{Money}
+use Rattle.subject.specs.Moneys as moneys
+use Rattle.subject.specs.declared.way.Way.{Way}
+use Rattle.subject.specs.declared.run.Step.{Step}
+use Rattle.subject.specs.declared.run.Request.{Request}
+use Rattle.subject.specs.Sites.{SiteMeaning}
+use Rattle.subject.specs.Runs.{loss_behind, total}
 use Rattle.sheet.specs.Refused.{number_then}
 
 -- RUN, start, end and bound

@@ -1,17 +1,17 @@
 // Numbers in decimal.
 ghost use Rattle.std.specs.Prelude.{◌≡◌, decimal};
-ghost use Rattle.byte_slices.specs.Lay.{placed, over};
+ghost use Rattle.survey_file.specs.Pieces.{put_answer, put_bytes};
 ghost use Rattle.sheet.specs.Decimals.{PlainDecimal};
 ghost use Rattle.sheet.specs.Lines.{text_of};
 
 use crate::text::TextLine;
-use refusal::Refusal;
+use subject::refusal::Refusal;
 
 // A number in decimal, into the front of the bytes, and how many digits it has. There is no zero in front but for the number
 // zero, which is a single 0, and the digits read as the number again.
 pub fn put_decimal(n: u64, out: &mut [u8]) -> Result<usize, Refusal>
-    ensures answer { result ≡ placed out.old 0 (decimal n) }
-    ensures after { out.new ≡ over out.old 0 (decimal n) }
+    ensures answer { result ≡ put_answer out.old 0 (decimal n) }
+    ensures after { out.new ≡ put_bytes out.old 0 (decimal n) }
     ensures plain { PlainDecimal n }
 {
     decimal_line(n).put_into(out, 0)

@@ -4,6 +4,8 @@
 pub mod digits;
 pub mod lines;
 pub mod page;
+pub mod pricing;
+pub mod print;
 pub mod refused;
 pub mod steps;
 pub mod text;

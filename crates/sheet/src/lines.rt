@@ -4,8 +4,8 @@ ghost use Rattle.sheet.specs.Lines.{text_of};
 ghost use Rattle.sheet.specs.Sheet.{run_line, mark_end, step_line, total_line};
 
 use crate::text::TextLine;
-use charge::money::Money;
-use site::run::Request;
+use subject::money::Money;
+use subject::run::Request;
 
 // The first line: RUN, start, end and bound.
 pub(crate) fn run_line(request: Request) -> TextLine

@@ -1,31 +1,31 @@
 // The sheet of a run over a sealed survey.
 ghost use Rattle.std.specs.Prelude.{◌≡◌, ◌<◌, ◌≤◌, length, MatchResult};
-ghost use Rattle.byte_slices.specs.Lay.{placed, over};
-ghost use Rattle.charge.specs.Moneys as moneys;
-ghost use Rattle.refusal.specs.declared.Refusal.TheVariants.{NotLawful};
-ghost use Rattle.site.specs.Runs.{Run, total};
+ghost use Rattle.survey_file.specs.Pieces.{put_answer, put_bytes};
+ghost use Rattle.subject.specs.Moneys as moneys;
+ghost use Rattle.subject.specs.declared.refusal.Refusal.TheVariants.{NotLawful};
+ghost use Rattle.subject.specs.Runs.{IsRun, total};
 ghost use Rattle.survey.specs.Sealing.{sealed_contents};
-ghost use Rattle.views.specs.SurveySite.{money_site};
+ghost use Rattle.survey.specs.SurveySite.{money_site};
 ghost use Rattle.sheet.specs.Lines.{text_of};
 ghost use Rattle.sheet.specs.Sheet.{sheet_text};
 ghost use Rattle.sheet.specs.Page.{PageDrawn, PageRefused};
 
 use crate::lines::{run_line, total_line};
 use crate::steps::Drawn;
-use charge::money::Money;
-use pricing::total_of;
-use refusal::Refusal;
+use subject::money::Money;
+use crate::pricing::total_of;
+use subject::refusal::Refusal;
 use search::check::check_request;
-use site::run::{Request, Step};
+use subject::run::{Request, Step};
 use survey::sealed::Sealed;
-use views::money::MoneyView;
+use survey::view::MoneyView;
 
 // The sheet of a lawful run, whose total is known, at the front of the bytes.
 fn put_sheet(drawn: &Drawn<'_, MoneyView<'_>>, sum: Money, out: &mut [u8]) -> Result<usize, Refusal>
-    requires lawful { Run (money_site (sealed_contents drawn.now.site.now.survey.now)) drawn.now.request drawn.now.steps.now }
+    requires lawful { IsRun (money_site (sealed_contents drawn.now.site.now.survey.now)) drawn.now.request drawn.now.steps.now }
     requires sum { sum ≡ total moneys.money (money_site (sealed_contents drawn.now.site.now.survey.now)) drawn.now.steps.now }
-    ensures answer { result ≡ placed out.old 0 (sheet_text (money_site (sealed_contents drawn.now.site.now.survey.now)) drawn.now.request drawn.now.steps.now) }
-    ensures after { out.new ≡ over out.old 0 (sheet_text (money_site (sealed_contents drawn.now.site.now.survey.now)) drawn.now.request drawn.now.steps.now) }
+    ensures answer { result ≡ put_answer out.old 0 (sheet_text (money_site (sealed_contents drawn.now.site.now.survey.now)) drawn.now.request drawn.now.steps.now) }
+    ensures after { out.new ≡ put_bytes out.old 0 (sheet_text (money_site (sealed_contents drawn.now.site.now.survey.now)) drawn.now.request drawn.now.steps.now) }
 {
     let first = run_line(drawn.request);
     let last = total_line(sum);
@@ -39,7 +39,7 @@ fn put_sheet(drawn: &Drawn<'_, MoneyView<'_>>, sum: Money, out: &mut [u8]) -> Re
 
 // The total of a lawful run; other steps are refused.
 fn lawful_total(site: &MoneyView<'_>, request: Request, steps: &[Step]) -> Result<Money, Refusal>
-    ensures { MatchResult result (λ sum. Run (money_site (sealed_contents site.now.survey.now)) request steps.now × (sum ≡ total moneys.money (money_site (sealed_contents site.now.survey.now)) steps.now)) (λ e. (e ≡ NotLawful) × (Run (money_site (sealed_contents site.now.survey.now)) request steps.now → ⊥)) }
+    ensures { MatchResult result (λ sum. IsRun (money_site (sealed_contents site.now.survey.now)) request steps.now × (sum ≡ total moneys.money (money_site (sealed_contents site.now.survey.now)) steps.now)) (λ e. (e ≡ NotLawful) × (IsRun (money_site (sealed_contents site.now.survey.now)) request steps.now → ⊥)) }
 {
     total_of(site, request, steps).ok_or(Refusal::NotLawful)
 }
@@ -56,7 +56,7 @@ pub fn sheet(
     ensures { MatchResult result (λ n. PageDrawn (money_site (sealed_contents survey.now)) request steps.now out.old out.new n) (λ e. PageRefused (money_site (sealed_contents survey.now)) request steps.now out.old e × (out.new ≡ out.old)) }
 {
     check_request(survey.places(), request)?;
-    let site = &MoneyView::over(survey);
+    let site = &MoneyView::put_bytes(survey);
     let sum = lawful_total(site, request, steps)?;
     let drawn = Drawn {
         site,

@@ -1,16 +1,16 @@
 // The lines of the steps of a lawful run: first how long they are, then into the bytes.
 ghost use Rattle.std.specs.Prelude.{◌≡◌, ◌+◌, ◌<◌, ◌≤◌, length, Ok, MatchOption};
-ghost use Rattle.byte_slices.specs.Lay.{over};
-ghost use Rattle.site.specs.Runs.{Run, loss_behind};
+ghost use Rattle.survey_file.specs.Pieces.{put_bytes};
+ghost use Rattle.subject.specs.Runs.{IsRun, loss_behind};
 ghost use Rattle.sheet.specs.Lines.{text_of};
 ghost use Rattle.sheet.specs.Sheet.{line_of, step_lines};
 
 use crate::lines::step_line;
 use crate::text::TextLine;
-use refusal::Refusal;
+use subject::refusal::Refusal;
 use search::step::loss_after;
-use site::run::{Request, Step};
-use site::site::Site;
+use subject::run::{Request, Step};
+use subject::site::Site;
 
 // The line of a step, and the loss with which the run goes on.
 #[derive(Drop)]
@@ -55,7 +55,7 @@ pub(crate) struct Drawn<'a, S: Site> {
 impl<S: Site> Drawn<'_, S> {
     // How long the lines of all steps are, or none where they are longer than `most`.
     pub(crate) fn length(&self, most: usize) -> Option<usize>
-        requires { Run (S.Site.meaning self.now.site.now) self.now.request self.now.steps.now }
+        requires { IsRun (S.Site.meaning self.now.site.now) self.now.request self.now.steps.now }
         ensures { MatchOption result (most < length (step_lines (S.Site.meaning self.now.site.now) 0 self.now.steps.now)) (λ n. (n ≡ length (step_lines (S.Site.meaning self.now.site.now) 0 self.now.steps.now)) × (n ≤ most)) }
     {
         let mut loss = 0;
@@ -74,10 +74,10 @@ impl<S: Site> Drawn<'_, S> {
     // The lines of all steps, into the bytes from a place on. (It goes over the steps as `length` does: one adds up lengths and stops
     // where there is no room, the other writes, and what they share is the step's line, which `arrive` makes.)
     pub(crate) fn put(&self, out: &mut [u8], start: usize) -> Result<usize, Refusal>
-        requires lawful { Run (S.Site.meaning self.now.site.now) self.now.request self.now.steps.now }
+        requires lawful { IsRun (S.Site.meaning self.now.site.now) self.now.request self.now.steps.now }
         requires room { start + length (step_lines (S.Site.meaning self.now.site.now) 0 self.now.steps.now) ≤ length out.old }
         ensures answer { result ≡ Ok (start + length (step_lines (S.Site.meaning self.now.site.now) 0 self.now.steps.now)) }
-        ensures after { out.new ≡ over out.old start (step_lines (S.Site.meaning self.now.site.now) 0 self.now.steps.now) }
+        ensures after { out.new ≡ put_bytes out.old start (step_lines (S.Site.meaning self.now.site.now) 0 self.now.steps.now) }
     {
         let mut loss = 0;
         let mut at = start;

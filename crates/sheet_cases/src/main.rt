@@ -2,13 +2,13 @@
 // requests that are refused, and bytes that are too few.
 #![tactic(auto)]
 
-use four_places::house;
+use sample_house::house;
 use job::job::Job;
-use pricing::total_of;
+use sheet::pricing::total_of;
 use sheet::page::sheet;
-use site::run::{Request, Step};
+use subject::run::{Request, Step};
 use survey::sealed::Sealed;
-use views::money::MoneyView;
+use survey::view::MoneyView;
 
 const fn plain(way: usize) -> Step {
     Step { way, mark: false }

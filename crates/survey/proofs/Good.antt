@@ -2,14 +2,14 @@
 use Rattle.std.proofs.Common.{◌≡◌, ℕ, zero, suc, ◌+◌, ◌*◌, ◌/◌, ◌<◌, ◌≤◌, Bool, true, false, cond, eqb, ltb, leb, List, [], ◌∷◌, ◌++◌, length, get_or, set, is_ok, is_some, IfSome, Some, None, Option, Ok, Err, Result, sym, refl, ap, ◌∙◌, mul-le-mul, arith}
 use Rattle.std.specs.List.{slice_get}
 use Rattle.std.proofs.lemmas.Bool.Decides.{nat_tests}
-use Rattle.refusal.specs.declared.Refusal.{Refusal}
-use Rattle.card.specs.Card.{row_of, figure, loss_of, entry_of}
+use Rattle.subject.specs.declared.refusal.Refusal.{Refusal}
+use Rattle.survey.specs.Card.{row_of, figure, loss_of, entry_of}
 use Rattle.std.proofs.lemmas.Bool.{eqb-true, ltb-true, leb-true}
 use Rattle.survey.specs.declared.entry.Place.{Place}
 use Rattle.survey.specs.declared.entry.WayEntry.{WayEntry}
 use Rattle.survey.specs.Checks.{then, price_check, place_check, ends_check, way_check, good_places, good_way, good_ways}
-use Rattle.survey.specs.Edits.{priced}
-use Rattle.refusal.specs.declared.Refusal.TheVariants.{WrongEnds, WrongLetter, TooLong}
+use Rattle.survey.specs.Edits.{with_price}
+use Rattle.subject.specs.declared.refusal.Refusal.TheVariants.{WrongEnds, WrongLetter, TooLong}
 use Rattle.std.proofs.lemmas.Option.{slice_get_read}
 
 -- a test of two parts passes only if both do
@@ -58,24 +58,24 @@ ways_more n (w ∷ ws) h =
     cond_both (good_way (n + 1) w) (good_ways (n + 1) ws) (way_more n w (cond_first (good_way n w) (good_ways n ws) h))
     (ways_more n ws (cond_second (good_way n w) (good_ways n ws) h))
 
-way_priced : (n : ℕ) (w : WayEntry) (p : ℕ) → good_way n w ≡ true → is_ok (price_check p) ≡ true → good_way n (priced w p) ≡ true
+way_priced : (n : ℕ) (w : WayEntry) (p : ℕ) → good_way n w ≡ true → is_ok (price_check p) ≡ true → good_way n (with_price w p) ≡ true
 way_priced n w p h k =
-    cond_both (is_ok (way_check n (priced w p))) (ltb w.grade 256)
+    cond_both (is_ok (way_check n (with_price w p))) (ltb w.grade 256)
     (then_kept (ends_check n w) (ends_check n w) _ _ (λ x e. e)
     (λ x. then_kept (loss_of w.letter w.metres) (loss_of w.letter w.metres) _ _ (λ y e. e) (λ y q. k))
     (cond_first (is_ok (way_check n w)) (ltb w.grade 256) h))
     (cond_second (is_ok (way_check n w)) (ltb w.grade 256) h)
 
 pub ways_priced : (n : ℕ) (ws : List WayEntry) (i : ℕ) (w : WayEntry) (p : ℕ) → good_ways n ws ≡ true → slice_get ws i ≡ Some w → is_ok (price_check p) ≡ true
-    → good_ways n (set ws i (priced w p)) ≡ true
+    → good_ways n (set ws i (with_price w p)) ≡ true
 ways_priced n [] i w p h e k = refl
 ways_priced n (v ∷ ws) zero w p h e k =
     let same : v ≡ w = grind arith in
-    cond_both (good_way n (priced w p)) (good_ways n ws)
+    cond_both (good_way n (with_price w p)) (good_ways n ws)
     (way_priced n w p (ap (good_way n) (sym same) ∙ cond_first (good_way n v) (good_ways n ws) h) k)
     (cond_second (good_way n v) (good_ways n ws) h)
 ways_priced n (v ∷ ws) (suc i) w p h e k =
-    cond_both (good_way n v) (good_ways n (set ws i (priced w p))) (cond_first (good_way n v) (good_ways n ws) h)
+    cond_both (good_way n v) (good_ways n (set ws i (with_price w p))) (cond_first (good_way n v) (good_ways n ws) h)
     (ways_priced n ws i w p (cond_second (good_way n v) (good_ways n ws) h) e k)
 
 -- what is lent by its number is the element of that number; `now` tells what is lent

@@ -1,8 +1,8 @@
 -- What is checked of an entry of a survey, in which order, and with which refusal. Stands on the loss card.
 use Rattle.std.specs.Prelude.{ℕ, Bool, true, false, cond, List, [], ◌∷◌, is_ok, Some, None, Ok, Err, Option, Result, ◌==◌, nat_le, nat_lt}
-use Rattle.refusal.specs.declared.Refusal.{Refusal}
-use Rattle.refusal.specs.declared.Refusal.TheVariants.{WrongEnds, TooDear}
-use Rattle.card.specs.Card.{loss_of}
+use Rattle.subject.specs.declared.refusal.Refusal.{Refusal}
+use Rattle.subject.specs.declared.refusal.Refusal.TheVariants.{WrongEnds, TooDear}
+use Rattle.survey.specs.Card.{loss_of}
 use Rattle.survey.specs.declared.entry.Place.{Place}
 use Rattle.survey.specs.declared.entry.WayEntry.{WayEntry}
 

@@ -1,22 +1,22 @@
 -- What the calls on a draft do to its contents, or how they refuse. Stands on Checks and Contents.
 use Rattle.std.specs.Prelude.{ℕ, cond, [], ◌∷◌, ◌++◌, length, Some, None, Ok, Err, Option, Result, nat_lt, slice_set}
 use Rattle.std.specs.List.{slice_get}
-use Rattle.refusal.specs.declared.Refusal.{Refusal}
-use Rattle.refusal.specs.declared.Refusal.TheVariants.{DraftFull, NoSuchWay}
+use Rattle.subject.specs.declared.refusal.Refusal.{Refusal}
+use Rattle.subject.specs.declared.refusal.Refusal.TheVariants.{DraftFull, NoSuchWay}
 use Rattle.survey.specs.declared.entry.Place.{Place}
 use Rattle.survey.specs.declared.entry.WayEntry.{WayEntry}
 use Rattle.survey.specs.Checks.{then, price_check, place_check, way_check}
 use Rattle.survey.specs.Contents.{Contents}
 
 -- what a call answers: x where the edit is accepted, else its refusal
-abbrev pub given : {X Y E : Type 0} → X → Result Y E → Result X E
-given x (Ok y) = Ok x
-given x (Err e) = Err e
+abbrev pub answer_of : {X Y E : Type 0} → X → Result Y E → Result X E
+answer_of x (Ok y) = Ok x
+answer_of x (Err e) = Err e
 
 -- what a call leaves: the new contents where the edit is accepted, else the old ones
-abbrev pub left : {E : Type 0} → Contents → Result Contents E → Contents
-left c (Ok d) = d
-left c (Err e) = c
+abbrev pub contents_after : {E : Type 0} → Contents → Result Contents E → Contents
+contents_after c (Ok d) = d
+contents_after c (Err e) = c
 
 abbrev pub of_repeater : Option ℕ → Place
 of_repeater r = record { repeater = r }
@@ -36,12 +36,12 @@ add_way c w =
     (Err DraftFull)
 
 -- a way at another price
-abbrev pub priced : WayEntry → ℕ → WayEntry
-priced w p = record { from = w.from; to = w.to; letter = w.letter; grade = w.grade; metres = w.metres; price = p }
+abbrev pub with_price : WayEntry → ℕ → WayEntry
+with_price w p = record { from = w.from; to = w.to; letter = w.letter; grade = w.grade; metres = w.metres; price = p }
 
 abbrev pub reprice_way : Contents → ℕ → ℕ → Option WayEntry → Result Contents Refusal
 reprice_way c i p None = Err NoSuchWay
-reprice_way c i p (Some w) = then (price_check p) (λ _. Ok (record { places = c.places; ways = slice_set c.ways i (priced w p) }))
+reprice_way c i p (Some w) = then (price_check p) (λ _. Ok (record { places = c.places; ways = slice_set c.ways i (with_price w p) }))
 
 -- one way at another price, and all else as it was
 abbrev pub reprice : Contents → ℕ → ℕ → Result Contents Refusal

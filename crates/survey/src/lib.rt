@@ -1,6 +1,8 @@
-// Surveys of a house: the draft that is written and changed, and the sealed survey that is planned over.
+//! Surveys: the loss card, drafts, sealed surveys, and the sites that they are.
 #![tactic(auto)]
 
+pub mod card;
 pub mod draft;
 pub mod entry;
 pub mod sealed;
+pub mod view;

@@ -1,5 +1,5 @@
 // Files at and past each limit.
-use refusal::Fault;
+use subject::refusal::Fault;
 use std::alloc::{AllocError, Global};
 use survey::draft::Draft;
 use survey_file::reader::FileReader;

@@ -1,6 +1,6 @@
 -- What is known where a check, or one check after another, has passed. By cases on the checks.
 use Rattle.std.proofs.Common.{◌≡◌, ℕ, Bool, true, false, cond, is_ok, Ok, Err, Result, refl, arith}
-use Rattle.refusal.specs.declared.Refusal.{Refusal}
+use Rattle.subject.specs.declared.refusal.Refusal.{Refusal}
 use Rattle.survey.specs.Checks.{then}
 use Rattle.survey_file.specs.Fields.{located}
 

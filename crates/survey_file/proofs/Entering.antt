@@ -2,11 +2,11 @@
 -- whether the draft takes the entry.
 use Rattle.std.proofs.Common.{◌≡◌, ℕ, Ok, Err, Result, MatchResult, refl, ap, ◌∙◌, arith}
 use Rattle.std.specs.Result.{result_and}
-use Rattle.refusal.specs.declared.Refusal.{Refusal}
-use Rattle.refusal.specs.declared.Fault.{Fault}
+use Rattle.subject.specs.declared.refusal.Refusal.{Refusal}
+use Rattle.subject.specs.declared.refusal.Fault.{Fault}
 use Rattle.survey.specs.Contents.{Contents}
 use Rattle.survey.specs.Checks.{then}
-use Rattle.survey.specs.Edits.{given}
+use Rattle.survey.specs.Edits.{answer_of}
 use Rattle.survey_file.specs.declared.reader.Phase.{Phase}
 use Rattle.survey_file.specs.declared.reader.State.{State}
 use Rattle.survey_file.specs.declared.record.Record.{Record}
@@ -21,7 +21,7 @@ module _ {E : Type 0} (entered : Contents → E → Result Contents Refusal) (c 
   abbrev pub behind : Record E → State
   behind x = record { phase = p; at = x.next }
 
-  moved : (s : State) (e : Result Contents Refusal) (q : Result ℕ Refusal) (m : Result ℕ Fault) → given s q ≡ given s e
+  moved : (s : State) (e : Result Contents Refusal) (q : Result ℕ Refusal) (m : Result ℕ Fault) → answer_of s q ≡ answer_of s e
       → MatchResult q (λ n. m ≡ Ok n) (λ w. m ≡ Err (fault_of w at))
       → result_and m (Ok s) ≡ state_of (then (located e at) (λ d. Ok (record { state = s; entered = d })))
   moved s (Ok d) (Ok n) (Ok k) a b = refl
@@ -30,7 +30,7 @@ module _ {E : Type 0} (entered : Contents → E → Result Contents Refusal) (c 
 
   -- a refusal is a fault of the field, and where there is none the reader has come behind it
   pub entry_moved : (r : Result (Record E) Fault) (x : Record E) (s : Phase) (q : Result ℕ Refusal) (m : Result ℕ Fault) (out : Result State Fault) → Ok x ≡ r
-      → s ≡ p → given (behind x) q ≡ given (behind x) (entered c x.entry) → MatchResult q (λ n. m ≡ Ok n) (λ w. m ≡ Err (fault_of w at))
+      → s ≡ p → answer_of (behind x) q ≡ answer_of (behind x) (entered c x.entry) → MatchResult q (λ n. m ≡ Ok n) (λ w. m ≡ Err (fault_of w at))
       → out ≡ result_and m (Ok (record { phase = s; at = x.next })) → out ≡ state_of (entering r)
   entry_moved r x s q m out read there told b both =
       both ∙ ap (λ y. result_and m (Ok (record { phase = y; at = x.next }))) there ∙ moved (behind x) (entered c x.entry) q m told b ∙ ap (λ y. state_of (entering y)) read

@@ -4,3 +4,4 @@ pub mod Answering
 pub mod ReadsBack
 pub mod OnlyFile
 pub mod Writing
+pub mod Pieces

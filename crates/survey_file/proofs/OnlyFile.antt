@@ -4,8 +4,8 @@ use Rattle.std.proofs.Common.{◌≡◌, ℕ, zero, suc, ◌+◌, ◌-◌, ◌/�
 use Rattle.std.specs.List.{flat_map}
 use Rattle.std.proofs.lemmas.List.{append_assoc, append-nil, drop_more, drop_all, get_or_past}
 use Rattle.std.proofs.lemmas.Bool.{ltb-false, eqb-true, cases_lt}
-use Rattle.refusal.specs.declared.Refusal.TheVariants.{CutShort, WrongLength, WrongTag, WrongEdition, BytesBehind, DraftFull}
-use Rattle.refusal.specs.declared.Fault.{Fault}
+use Rattle.subject.specs.declared.refusal.Refusal.TheVariants.{CutShort, WrongLength, WrongTag, WrongEdition, BytesBehind, DraftFull}
+use Rattle.subject.specs.declared.refusal.Fault.{Fault}
 use Rattle.survey.specs.declared.entry.Place.{Place}
 use Rattle.survey.specs.declared.entry.WayEntry.{WayEntry}
 use Rattle.survey.specs.Checks.{then, place_check, way_check}

@@ -1,6 +1,6 @@
 -- The loop of the reader: before each turn, some turns are left that suffice, and they give what the whole file says.
 use Rattle.std.proofs.Common.{◌≡◌, ℕ, zero, suc, ◌-◌, ◌<◌, ◌≤◌, Bool, true, false, cond, List, length, Ok, Err, Result, sym, ap, ◌∙◌, arith}
-use Rattle.refusal.specs.declared.Fault.{Fault}
+use Rattle.subject.specs.declared.refusal.Fault.{Fault}
 use Rattle.survey.specs.Contents.{Contents, no_contents}
 use Rattle.survey_file.specs.declared.reader.State.{State}
 use Rattle.survey.specs.Checks.{then}

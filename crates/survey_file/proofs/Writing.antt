@@ -2,11 +2,11 @@
 use Rattle.std.proofs.Common.{◌≡◌, ℕ, zero, suc, ◌+◌, ◌*◌, ◌≤◌, true, List, [], ◌∷◌, ◌++◌, length, take, Some, Ok, Err, Result, sym, refl, ap, ◌∙◌, add-one, arith}
 use Rattle.std.specs.List.{slice_get, All, flat_map}
 use Rattle.std.proofs.lemmas.List.{append-nil, append_assoc, length-append}
-use Rattle.refusal.specs.declared.Refusal.{Refusal}
+use Rattle.subject.specs.declared.refusal.Refusal.{Refusal}
 use Rattle.survey_file.proofs.Answering.{ok_same}
-use Rattle.byte_slices.specs.Lay.{placed, over}
-use Rattle.byte_slices.proofs.Laid.{placed_fits, over_length, over_more, Front, front_first, front_fits, front_more}
-use Rattle.byte_slices.proofs.Laid.{not_refused as refused-not}
+use Rattle.survey_file.specs.Pieces.{put_answer, put_bytes}
+use Rattle.survey_file.proofs.Pieces.{placed_fits, over_length, over_more, Front, front_first, front_fits, front_more}
+use Rattle.survey_file.proofs.Pieces.{not_refused as refused-not}
 use Rattle.survey.specs.declared.entry.Place.{Place}
 use Rattle.survey.specs.declared.entry.WayEntry.{WayEntry}
 use Rattle.survey.specs.Contents.{Contents}
@@ -45,7 +45,7 @@ letters_fit n (w ∷ ws) good (suc k) d below = letters_fit n ws (cond_second (g
 -- the fields of the first i entries stand in the bytes, and the next place is behind them
 pub record Put {X : Type 0} (f : X → List ℕ) (xs : List X) (before : List ℕ) (start i at : ℕ) (out : List ℕ) : Type 0 where
   pub next : at ≡ start + length (flat_map f (take i xs))
-  pub bytes : out ≡ over before start (flat_map f (take i xs))
+  pub bytes : out ≡ put_bytes before start (flat_map f (take i xs))
 
 joined_front : {X : Type 0} (f : X → List ℕ) (xs : List X) (i : ℕ) → length (flat_map f (take i xs)) ≤ length (flat_map f xs)
 joined_front f [] zero = omega arith
@@ -74,10 +74,10 @@ module _ {X : Type 0} (f : X → List ℕ) (xs : List X) (before : List ℕ) (st
       omega arith
 
   -- so it is not refused
-  pub not_refused : (x : X) (e : Refusal) → Some x ≡ slice_get xs i → Err e ≡ placed out at (f x) → ⊥
+  pub not_refused : (x : X) (e : Refusal) → Some x ≡ slice_get xs i → Err e ≡ put_answer out at (f x) → ⊥
   not_refused x e h refused = refused-not out at (f x) e (put_fits x h) refused
 
-  pub put_more : (x : X) (next : ℕ) (out' : List ℕ) → Some x ≡ slice_get xs i → Ok next ≡ placed out at (f x) → out' ≡ over out at (f x) → Put f xs before start (i + 1) next out'
+  pub put_more : (x : X) (next : ℕ) (out' : List ℕ) → Some x ≡ slice_get xs i → Ok next ≡ put_answer out at (f x) → out' ≡ put_bytes out at (f x) → Put f xs before start (i + 1) next out'
   put_more x next out' h answered is =
       let behind = ok_same next (at + length (f x)) (answered ∙ placed_fits out at (f x) (put_fits x h)) in
       let fields = joined_next f xs i x h in
@@ -87,7 +87,7 @@ module _ {X : Type 0} (f : X → List ℕ) (xs : List X) (before : List ℕ) (st
       let room-so-far : start + length (flat_map f (take i xs) ++ f x) ≤ length before = omega (arith, ap length fields) in
       record {
         next = omega arith;
-        bytes = is ∙ ap (λ o. over o at (f x)) so_far.bytes ∙ over_more before start at (flat_map f (take i xs)) (f x) here room-so-far ∙ ap (over before start) (sym fields);
+        bytes = is ∙ ap (λ o. put_bytes o at (f x)) so_far.bytes ∙ over_more before start at (flat_map f (take i xs)) (f x) here room-so-far ∙ ap (put_bytes before start) (sym fields);
       }
 
 -- bytes with room for the file of contents, whose places and ways were lent as those lists
@@ -121,8 +121,8 @@ module _ (before : List ℕ) (ps : List Place) (ws : List WayEntry) (c : Content
       let e = length-append up_to_ways end_field in
       (omega arith, omega arith, omega arith)
 
-  pub front_places : (a b : ℕ) (o o' : List ℕ) → Ok a ≡ placed before 0 head_field → o ≡ over before 0 head_field
-      → ◌≡◌ {A = Result ℕ Refusal} (Ok b) (Ok (a + length (flat_map place_field ps))) → o' ≡ over o a (flat_map place_field ps) → Front before up_to_places b o'
+  pub front_places : (a b : ℕ) (o o' : List ℕ) → Ok a ≡ put_answer before 0 head_field → o ≡ put_bytes before 0 head_field
+      → ◌≡◌ {A = Result ℕ Refusal} (Ok b) (Ok (a + length (flat_map place_field ps))) → o' ≡ put_bytes o a (flat_map place_field ps) → Front before up_to_places b o'
   front_places a b o o' head head_is answered is =
       let begun = front_first before head_field (flat_map place_field ps) a o room_parts.0 head head_is in
       front_more before head_field (flat_map place_field ps) a o room_parts.0 begun b o' (ok_same b (a + length (flat_map place_field ps)) answered) is
@@ -131,10 +131,10 @@ module _ (before : List ℕ) (ps : List Place) (ws : List WayEntry) (c : Content
   ways_fit a o f = front_fits before up_to_places (flat_map way_field ws) a o room_parts.1 f
 
   pub front_ways : (a b : ℕ) (o o' : List ℕ) → Front before up_to_places a o → ◌≡◌ {A = Result ℕ Refusal} (Ok b) (Ok (a + length (flat_map way_field ws)))
-      → o' ≡ over o a (flat_map way_field ws) → Front before up_to_ways b o'
+      → o' ≡ put_bytes o a (flat_map way_field ws) → Front before up_to_ways b o'
   front_ways a b o o' f answered is = front_more before up_to_places (flat_map way_field ws) a o room_parts.1 f b o' (ok_same b (a + length (flat_map way_field ws)) answered) is
 
-  pub end_answer : (a : ℕ) (o : List ℕ) → Front before up_to_ways a o → placed o a end_field ≡ placed before 0 (file_of c)
+  pub end_answer : (a : ℕ) (o : List ℕ) → Front before up_to_ways a o → put_answer o a end_field ≡ put_answer before 0 (file_of c)
   end_answer a o f =
       let here = f.next in
       let together = length-append up_to_ways end_field in
@@ -142,6 +142,6 @@ module _ (before : List ℕ) (ps : List Place) (ws : List WayEntry) (c : Content
       let same : a + 3 ≡ 0 + length (file_of c) = omega arith in
       placed_fits o a end_field (front_fits before up_to_ways end_field a o room_parts.2 f) ∙ ap Ok same ∙ sym (placed_fits before 0 (file_of c) (omega (arith, r.room)))
 
-  pub end_bytes : (a : ℕ) (o : List ℕ) → Front before up_to_ways a o → over o a end_field ≡ over before 0 (file_of c)
+  pub end_bytes : (a : ℕ) (o : List ℕ) → Front before up_to_ways a o → put_bytes o a end_field ≡ put_bytes before 0 (file_of c)
   end_bytes a o f =
-      (front_more before up_to_ways end_field a o room_parts.2 f (a + 3) (over o a end_field) refl refl).bytes ∙ ap (over before 0) whole
+      (front_more before up_to_ways end_field a o room_parts.2 f (a + 3) (put_bytes o a end_field) refl refl).bytes ∙ ap (put_bytes before 0) whole

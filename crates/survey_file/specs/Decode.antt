@@ -1,9 +1,9 @@
 -- What a survey file says: the contents that it reads as, or the fault that it is refused with. Stands on Records and
 -- on the edits of a draft.
 use Rattle.std.specs.Prelude.{ℕ, zero, suc, Bool, true, false, cond, List, length, Ok, Err, Result, ◌==◌}
-use Rattle.refusal.specs.declared.Refusal.{Refusal}
-use Rattle.refusal.specs.declared.Refusal.TheVariants.{CutShort, WrongTag}
-use Rattle.refusal.specs.declared.Fault.{Fault}
+use Rattle.subject.specs.declared.refusal.Refusal.{Refusal}
+use Rattle.subject.specs.declared.refusal.Refusal.TheVariants.{CutShort, WrongTag}
+use Rattle.subject.specs.declared.refusal.Fault.{Fault}
 use Rattle.survey.specs.Checks.{then}
 use Rattle.survey.specs.Contents.{Contents, no_contents}
 use Rattle.survey.specs.Edits.{add_place, add_way}

@@ -1,9 +1,9 @@
 -- Fields of a survey file: a tag in one byte, a length in two, and a body. Numbers have their high byte first.
 -- A fault's place counts the bytes before the field's tag. Stands on the refusals.
 use Rattle.std.specs.Prelude.{ℕ, ◌+◌, ◌-◌, ◌*◌, cond, List, length, Ok, Err, Result, ◌==◌, nat_lt, slice_index}
-use Rattle.refusal.specs.declared.Refusal.{Refusal}
-use Rattle.refusal.specs.declared.Refusal.TheVariants.{CutShort, WrongLength}
-use Rattle.refusal.specs.declared.Fault.{Fault}
+use Rattle.subject.specs.declared.refusal.Refusal.{Refusal}
+use Rattle.subject.specs.declared.refusal.Refusal.TheVariants.{CutShort, WrongLength}
+use Rattle.subject.specs.declared.refusal.Fault.{Fault}
 use Rattle.survey_file.specs.declared.field.Head.{Head}
 
 -- a refusal, with the bytes before the field

@@ -3,3 +3,4 @@ pub mod Records
 pub mod Decode
 pub mod Encode
 pub mod Spare
+pub mod Pieces

@@ -1,7 +1,7 @@
 -- Records of a survey file: what the body of a field says, and where the next field begins. Stands on Fields.
 use Rattle.std.specs.Prelude.{ℕ, ◌+◌, cond, List, length, Some, None, Ok, Result, ◌==◌, nat_lt, slice_index}
-use Rattle.refusal.specs.declared.Refusal.TheVariants.{WrongEdition, BytesBehind}
-use Rattle.refusal.specs.declared.Fault.{Fault}
+use Rattle.subject.specs.declared.refusal.Refusal.TheVariants.{WrongEdition, BytesBehind}
+use Rattle.subject.specs.declared.refusal.Fault.{Fault}
 use Rattle.survey.specs.declared.entry.Place.{Place}
 use Rattle.survey.specs.declared.entry.WayEntry.{WayEntry}
 use Rattle.survey.specs.Edits.{of_repeater}

@@ -1,10 +1,10 @@
 // Entries of a file, which are places and ways: what is read of one and entered into a draft, and how one is written.
 ghost use Rattle.std.specs.Prelude.{◌≡◌, ℕ, ◌<◌, ◌≤◌, List, length, Result, Some, IfOk};
-ghost use Rattle.refusal.specs.declared.Refusal.{Refusal as Why};
-ghost use Rattle.refusal.specs.declared.Fault.{Fault as Met};
-ghost use Rattle.byte_slices.specs.Lay.{placed, over};
+ghost use Rattle.subject.specs.declared.refusal.Refusal.{Refusal as Why};
+ghost use Rattle.subject.specs.declared.refusal.Fault.{Fault as Met};
+ghost use Rattle.survey_file.specs.Pieces.{put_answer, put_bytes};
 ghost use Rattle.survey.specs.Contents.{Contents, contents};
-ghost use Rattle.survey.specs.Edits.{add_place, add_way, given, left};
+ghost use Rattle.survey.specs.Edits.{add_place, add_way, answer_of, contents_after};
 ghost use Rattle.survey_file.specs.declared.field.Head.{Head as HeadOf};
 ghost use Rattle.survey_file.specs.declared.reader.Phase.{Phase as PhaseOf};
 ghost use Rattle.survey_file.specs.declared.reader.Phase.TheVariants as phases;
@@ -16,8 +16,8 @@ ghost use Rattle.survey_file.specs.Encode.{repeater_field, place_field, way_fiel
 use crate::field::Field;
 use crate::reader::Phase;
 use crate::record::Record;
-use byte_slices::put;
-use refusal::{Fault, Refusal};
+use crate::bytes::put;
+use subject::refusal::{Fault, Refusal};
 use survey::draft::Draft;
 use survey::entry::{Place, WayEntry};
 
@@ -42,8 +42,8 @@ pub(crate) trait Entry: Copy {
         ensures goes { IfOk result (λ x. (field.now.at < x.next) × (x.next ≤ length field.now.bytes.now)) };
 
     fn enter(self, draft: &mut Draft) -> Result<usize, Refusal>
-        ensures answer { (s : StateOf) → given s result ≡ given s (entered (contents draft.old) self) }
-        ensures after { contents draft.new ≡ left (contents draft.old) (entered (contents draft.old) self) };
+        ensures answer { (s : StateOf) → answer_of s result ≡ answer_of s (entered (contents draft.old) self) }
+        ensures after { contents draft.new ≡ contents_after (contents draft.old) (entered (contents draft.old) self) };
 
     fn phase() -> Phase
         ensures { result ≡ behind };
@@ -51,8 +51,8 @@ pub(crate) trait Entry: Copy {
     // Its field is laid into the bytes at a place.
     fn put(self, out: &mut [u8], at: usize) -> Result<usize, Refusal>
         requires { writable self }
-        ensures answer { result ≡ placed out.old at (written self) }
-        ensures after { out.new ≡ over out.old at (written self) };
+        ensures answer { result ≡ put_answer out.old at (written self) }
+        ensures after { out.new ≡ put_bytes out.old at (written self) };
 }
 
 impl Entry for Place {

@@ -2,7 +2,7 @@
 ghost use Rattle.std.specs.Prelude.{◌≡◌, ◌+◌, ◌<◌, ◌≤◌, length, OnOk};
 ghost use Rattle.survey_file.specs.Fields.{two_at, four_at, head_at, body_at, fault_of};
 
-use refusal::{Fault, Refusal};
+use subject::refusal::{Fault, Refusal};
 
 // The first three bytes of a field. (The tag stays a byte: the reader matches it together with its phase, which docs/DECISIONS.md
 // tells under Forms, and every byte that is none of the four is refused alike.)

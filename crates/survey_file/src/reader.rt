@@ -4,11 +4,11 @@ ghost use Rattle.survey.specs.Contents.{contents, no_contents};
 ghost use Rattle.survey_file.specs.Decode.{ended, turn_of, state_of, contents_of, enter, reached, decode};
 ghost use Rattle.survey_file.specs.Encode.{file_of};
 ghost use Rattle.survey_file.specs.Spare.{spare_contents};
-ghost use Rattle.survey.specs.Edits.{given, left};
+ghost use Rattle.survey.specs.Edits.{answer_of, contents_after};
 
 use crate::entry::Entry;
 use crate::field::{Field, read_head};
-use refusal::{Fault, Refusal};
+use subject::refusal::{Fault, Refusal};
 use std::alloc::{AllocError, Global};
 use survey::draft::Draft;
 use survey::entry::{Place, WayEntry};
@@ -89,7 +89,7 @@ fn turn(bytes: &[u8], s: State, draft: &mut Draft) -> Result<State, Fault>
 // A whole file is read into an empty draft. (The loop counts nothing: a turn gives the next state, until the last phase is reached.)
 fn fill(bytes: &[u8], draft: &mut Draft) -> Result<(), Fault>
     requires { contents draft.old ≡ no_contents }
-    ensures answer { result ≡ given tt (decode bytes.now) }
+    ensures answer { result ≡ answer_of tt (decode bytes.now) }
     ensures draft { OnOk result (decode bytes.now ≡ Ok (contents draft.new)) }
 {
     let mut s = State {
@@ -121,8 +121,8 @@ impl FileReader {
     // An accepted file replaces what stood in the draft, which goes into the spare one; a refused one leaves it. An accepted
     // file is the one that is written from what it reads as.
     pub fn read(&mut self, bytes: &[u8], draft: &mut Draft) -> Result<(), Fault>
-        ensures answer { result ≡ given tt (decode bytes.now) }
-        ensures after { contents draft.new ≡ left (contents draft.old) (decode bytes.now) }
+        ensures answer { result ≡ answer_of tt (decode bytes.now) }
+        ensures after { contents draft.new ≡ contents_after (contents draft.old) (decode bytes.now) }
         ensures spare { OnOk result (spare_contents self.new ≡ contents draft.old) }
         ensures written { OnOk result (bytes.now ≡ file_of (contents draft.new)) }
     {

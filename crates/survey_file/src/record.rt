@@ -3,7 +3,7 @@ ghost use Rattle.std.specs.Prelude.{◌≡◌, ◌+◌, ◌<◌, ◌≤◌, leng
 ghost use Rattle.survey_file.specs.Records.{edition_at, place_at, way_at, end_at};
 
 use crate::field::{Field, four_at, two_at};
-use refusal::{Fault, Refusal};
+use subject::refusal::{Fault, Refusal};
 use survey::entry::{Place, WayEntry};
 
 // An entry, a place or a way, as its field says it, and where the next field begins.

@@ -1,14 +1,14 @@
 // The file of a sealed survey, written into bytes that the caller lends.
 ghost use Rattle.std.specs.Prelude.{◌≡◌, ◌+◌, ◌≤◌, length, Ok};
 ghost use Rattle.std.specs.List.{All, flat_map};
-ghost use Rattle.byte_slices.specs.Lay.{placed, over};
+ghost use Rattle.survey_file.specs.Pieces.{put_answer, put_bytes};
 ghost use Rattle.survey.specs.Sealing.{sealed_contents};
 ghost use Rattle.survey_file.specs.Decode.{decode};
 ghost use Rattle.survey_file.specs.Encode.{place_field, file_of};
 
 use crate::entry::Entry;
-use byte_slices::put;
-use refusal::Refusal;
+use crate::bytes::put;
+use subject::refusal::Refusal;
 use survey::entry::Place;
 use survey::sealed::Sealed;
 
@@ -39,7 +39,7 @@ fn put_all<E: Entry>(entries: &[E], out: &mut [u8], start: usize) -> Result<usiz
     requires writable { All E.Entry.writable entries.now }
     requires room { start + length (flat_map E.Entry.written entries.now) ≤ length out.old }
     ensures answer { result ≡ Ok (start + length (flat_map E.Entry.written entries.now)) }
-    ensures after { out.new ≡ over out.old start (flat_map E.Entry.written entries.now) }
+    ensures after { out.new ≡ put_bytes out.old start (flat_map E.Entry.written entries.now) }
 {
     let mut at = start;
     for entry in entries {
@@ -51,8 +51,8 @@ fn put_all<E: Entry>(entries: &[E], out: &mut [u8], start: usize) -> Result<usiz
 // The file of a survey, at the front of bytes that have room for it.
 fn put_file(survey: &Sealed, out: &mut [u8]) -> Result<usize, Refusal>
     requires { length (file_of (sealed_contents survey.now)) ≤ length out.old }
-    ensures answer { result ≡ placed out.old 0 (file_of (sealed_contents survey.now)) }
-    ensures after { out.new ≡ over out.old 0 (file_of (sealed_contents survey.now)) }
+    ensures answer { result ≡ put_answer out.old 0 (file_of (sealed_contents survey.now)) }
+    ensures after { out.new ≡ put_bytes out.old 0 (file_of (sealed_contents survey.now)) }
     ensures reads { decode (file_of (sealed_contents survey.now)) ≡ Ok (sealed_contents survey.now) }
 {
     let after_head = put(out, 0, &[1, 0, 2, 0, 1])?;
@@ -64,8 +64,8 @@ fn put_file(survey: &Sealed, out: &mut [u8]) -> Result<usize, Refusal>
 // The file of a survey is written to the front of the bytes, and its length answered. Bytes behind it stay; where it
 // does not fit, all do. What is written reads as the survey.
 pub fn write(survey: &Sealed, out: &mut [u8]) -> Result<usize, Refusal>
-    ensures answer { result ≡ placed out.old 0 (file_of (sealed_contents survey.now)) }
-    ensures after { out.new ≡ over out.old 0 (file_of (sealed_contents survey.now)) }
+    ensures answer { result ≡ put_answer out.old 0 (file_of (sealed_contents survey.now)) }
+    ensures after { out.new ≡ put_bytes out.old 0 (file_of (sealed_contents survey.now)) }
     ensures reads { decode (file_of (sealed_contents survey.now)) ≡ Ok (sealed_contents survey.now) }
 {
     if file_length(survey) > out.len() {

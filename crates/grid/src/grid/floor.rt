@@ -1,14 +1,14 @@
 ghost use Rattle.std.specs.Prelude.{◌≡◌, ℕ, ◌+◌, ◌*◌, ◌%◌, ◌<◌, ◌≤◌, if◌then◌else◌, Ok, Err};
-ghost use Rattle.refusal.specs.declared.Refusal.TheVariants.{WrongSide};
+ghost use Rattle.subject.specs.declared.refusal.Refusal.TheVariants.{WrongSide};
 ghost use Rattle.grid.specs.Floor.{floor, number_of, neighbour, side_fits, floor_site};
 ghost use Rattle.grid.specs.Grids.{floor_of, floor_in};
 ghost use Rattle.grid.specs.Bounds.{grid_bounded};
 
 use crate::grid::FloorGrid;
-use charge::kind::Charge;
-use refusal::Refusal;
-use site::site::Site;
-use site::way::Way;
+use subject::charge::Charge;
+use subject::refusal::Refusal;
+use subject::site::Site;
+use subject::way::Way;
 
 // Where a way leads from its place.
 #[derive(Clone, Copy)]

@@ -4,9 +4,9 @@ ghost use Rattle.job.specs.Jobs.{site_below, closed_by, shutting};
 ghost use Rattle.job.specs.Book.{closing, reopening, after_closing, after_reopening};
 
 use crate::job::Job;
-use refusal::Refusal;
-use site::site::Site;
-use site::way::Way;
+use subject::refusal::Refusal;
+use subject::site::Site;
+use subject::way::Way;
 use std::alloc::{AllocError, Global};
 
 // A job is a site again: the one below it, with the closed ways shut.

@@ -1,12 +1,12 @@
 ghost use Rattle.std.specs.Prelude.{◌≡◌, [], ◌∷◌, length, decimal};
-ghost use Rattle.byte_slices.specs.Lay.{placed, over};
+ghost use Rattle.survey_file.specs.Pieces.{put_answer, put_bytes};
 ghost use Rattle.sheet.specs.Lines.{text_of, pushed};
 
 use crate::text::TextLine;
 use arrayvec::ArrayVec;
-use byte_slices::put;
+use survey_file::bytes::put;
 use itoa::Buffer;
-use refusal::Refusal;
+use subject::refusal::Refusal;
 
 impl TextLine {
     pub(crate) fn new() -> TextLine
@@ -49,8 +49,8 @@ impl TextLine {
 
     // The text, laid into bytes at a place.
     pub(crate) fn put_into(&self, out: &mut [u8], at: usize) -> Result<usize, Refusal>
-        ensures answer { result ≡ placed out.old at (text_of self.now) }
-        ensures after { out.new ≡ over out.old at (text_of self.now) }
+        ensures answer { result ≡ put_answer out.old at (text_of self.now) }
+        ensures after { out.new ≡ put_bytes out.old at (text_of self.now) }
     {
         put(out, at, self.text.as_slice())
     }

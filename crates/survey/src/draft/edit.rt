@@ -4,13 +4,13 @@ ghost use Rattle.std.specs.Option.{ghost_name_of as name_of};
 ghost use Rattle.std.specs.Vec.{with_item};
 ghost use Rattle.survey.specs.Checks.{price_check, place_check, way_check};
 ghost use Rattle.survey.specs.Contents.{contents, no_contents};
-ghost use Rattle.survey.specs.Edits.{add_place, add_way, reprice, given, left};
+ghost use Rattle.survey.specs.Edits.{add_place, add_way, reprice, answer_of, contents_after};
 ghost use Rattle.survey.specs.contracts.entry.WayEntry.{the_row as way-row};
 ghost use Rattle.survey.specs.contracts.draft.WayTable.{the_row};
 
 use crate::draft::{Draft, WayTable};
 use crate::entry::{Place, WayEntry};
-use refusal::Refusal;
+use subject::refusal::Refusal;
 use std::alloc::{AllocError, Global};
 
 impl WayTable {
@@ -52,7 +52,7 @@ fn check_way(way: WayEntry, places: usize) -> Result<(), Refusal>
     if from >= places || to >= places || from == to {
         return Err(Refusal::WrongEnds);
     }
-    let _ = card::loss(way.letter, way.metres)?;
+    let _ = crate::card::loss(way.letter, way.metres)?;
     check_price(way.price)
 }
 
@@ -79,8 +79,8 @@ impl Draft {
 
     // One place more, with the price of a repeater there or none; its number.
     pub fn add_place(&mut self, repeater: Option<u32>) -> Result<usize, Refusal>
-        ensures answer { result ≡ given (length (contents self.old).places) (add_place (contents self.old) repeater) }
-        ensures after { contents self.new ≡ left (contents self.old) (add_place (contents self.old) repeater) }
+        ensures answer { result ≡ answer_of (length (contents self.old).places) (add_place (contents self.old) repeater) }
+        ensures after { contents self.new ≡ contents_after (contents self.old) (add_place (contents self.old) repeater) }
     {
         let number = self.places.len();
         if number >= 256 {
@@ -93,8 +93,8 @@ impl Draft {
 
     // One way more; its number.
     pub fn add_way(&mut self, way: WayEntry) -> Result<usize, Refusal>
-        ensures answer { result ≡ given (length (contents self.old).ways) (add_way (contents self.old) way) }
-        ensures after { contents self.new ≡ left (contents self.old) (add_way (contents self.old) way) }
+        ensures answer { result ≡ answer_of (length (contents self.old).ways) (add_way (contents self.old) way) }
+        ensures after { contents self.new ≡ contents_after (contents self.old) (add_way (contents self.old) way) }
     {
         let number = self.table.ways.len();
         if number >= 1024 {
@@ -107,8 +107,8 @@ impl Draft {
 
     // Another price for one way. Its other figures, every other way and all places stay.
     pub fn reprice(&mut self, number: usize, price: u32) -> Result<(), Refusal>
-        ensures answer { result ≡ given tt (reprice (contents self.old) number price) }
-        ensures after { contents self.new ≡ left (contents self.old) (reprice (contents self.old) number price) }
+        ensures answer { result ≡ answer_of tt (reprice (contents self.old) number price) }
+        ensures after { contents self.new ≡ contents_after (contents self.old) (reprice (contents self.old) number price) }
     {
         let way = self.table.way_mut(number).ok_or(Refusal::NoSuchWay)?;
         check_price(price)?;

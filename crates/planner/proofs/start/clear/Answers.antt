@@ -1,7 +1,7 @@
 -- One more row is blank; past the last one none is left.
 use Rattle.std.proofs.Common.{◌≡◌, ℕ, suc, ◌+◌, ◌++◌, List, drop, replicate, set, ap, ◌∙◌, subst, arith}
 use Rattle.search.specs.Columns.{blank_row}
-use Rattle.search.specs.declared.cell.Row.{Row}
+use Rattle.search.specs.declared.cell.CellRow.{Row}
 use Rattle.search.proofs.Tables.{fill_step}
 use Rattle.planner.proofs.start.clear.Goals as goal
 

@@ -1,9 +1,9 @@
 -- The first line, the lines of the steps and the last line are laid one behind the other, and there is room for each.
 use Rattle.std.proofs.Common.{◌≡◌, ℕ, ◌≤◌, List, ◌++◌, length, refl, ap, ◌∙◌, arith}
-use Rattle.byte_slices.specs.Lay.{over}
-use Rattle.byte_slices.proofs.Laid.{parts_long, three_laid}
+use Rattle.survey_file.specs.Pieces.{put_bytes}
+use Rattle.survey_file.proofs.Pieces.{parts_long, three_laid}
 use Rattle.survey.specs.Sealing.{sealed_contents}
-use Rattle.views.specs.SurveySite.{money_site}
+use Rattle.survey.specs.SurveySite.{money_site}
 use Rattle.sheet.specs.Lines.{text_of}
 use Rattle.sheet.specs.Sheet.{step_lines, total_line}
 use Rattle.sheet.proofs.page.put_sheet.Goals as goal
@@ -27,4 +27,4 @@ returns-clause-after c =
     let told-steps = c.in_ok-after_steps.ensures in
     let laid = three_laid out first steps last room c.in_ok-after_first.after_first c.in_ok-after_steps.after_steps c.put_into.new.out c.put.new.out
     told.answer told.after told-steps.answer told-steps.after in
-    c.put_into-2.ensures.after ∙ laid.1 ∙ ap (over out 0) text
+    c.put_into-2.ensures.after ∙ laid.1 ∙ ap (put_bytes out 0) text

@@ -1,7 +1,7 @@
 -- What was read is entered, and the reader moves on behind the field; or the draft refuses it.
 use Rattle.std.proofs.Common.{◌≡◌, ℕ, Ok, Err, MatchResult, rules}
 use Rattle.std.proofs.lemmas.Result.{MatchResult-weaker}
-use Rattle.refusal.specs.declared.Refusal.{Refusal}
+use Rattle.subject.specs.declared.refusal.Refusal.{Refusal}
 use Rattle.survey.specs.Contents.{contents}
 use Rattle.survey_file.specs.Fields.{fault_of}
 use Rattle.survey_file.proofs.Entering.{behind, entry_moved}

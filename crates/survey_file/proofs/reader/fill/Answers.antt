@@ -2,7 +2,7 @@
 use Rattle.std.proofs.Common.{Err, sym, ap, ◌∙◌}
 use Rattle.std.proofs.lemmas.Result.{err_from_is_err_and, IfOk-from_err}
 use Rattle.survey.specs.Contents.{contents}
-use Rattle.survey.specs.Edits.{given}
+use Rattle.survey.specs.Edits.{answer_of}
 use Rattle.survey_file.proofs.Turning.{at_end, after_err, after_ok}
 use Rattle.survey_file.proofs.reader.fill.Goals as goal
 
@@ -18,11 +18,11 @@ returns-in_err-s c =
     let refused = after_err c.args.bytes.now c.loop-s.s (contents c.loop-s.draft) _
     c.loop-s.invariant (sym c.is_ended.ensures ∙ c.loop-s-test.true) c.in_err-s.ensures.state in
     record {
-      answer = p.1 ∙ ap Err p.2 ∙ ap (given tt) (sym refused);
+      answer = p.1 ∙ ap Err p.2 ∙ ap (answer_of tt) (sym refused);
       draft = IfOk-from_err c.from_residual.result _ c.from_residual.ensures.0;
     }
 
 pub returns : goal.returns
 returns c =
     let whole = at_end c.args.bytes.now c.loop-s.s (contents c.loop-s.draft) c.loop-s.invariant (sym c.is_ended.ensures ∙ c.loop-s-test.false) in
-    record { answer = ap (given tt) (sym whole); draft = whole }
+    record { answer = ap (answer_of tt) (sym whole); draft = whole }

@@ -1,6 +1,6 @@
 -- Where the file is longer than the bytes it does not fit, and nothing is laid.
 use Rattle.std.proofs.Common.{◌+◌, ◌<◌, length, sym, arith}
-use Rattle.byte_slices.proofs.Laid.{placed_not, over_not}
+use Rattle.survey_file.proofs.Pieces.{placed_not, over_not}
 use Rattle.survey.specs.Sealing.{sealed_contents}
 use Rattle.survey_file.specs.Encode.{file_of}
 use Rattle.survey_file.proofs.ReadsBack.{sealed_reads}

@@ -3,11 +3,11 @@
 use Rattle.std.proofs.Common.{◌≡◌, ℕ, ◌+◌, ◌*◌, ◌<◌, ◌≤◌, true, length, Some, sym, refl, ap, ◌∙◌, subst, arith}
 use lib.Arith.{digits_lt}
 use lib.ListN.{length-map}
-use Rattle.site.specs.Whole.{kind_of}
-use Rattle.site.specs.Runs.{loss_after}
+use Rattle.subject.specs.Charges.{kind_of}
+use Rattle.subject.specs.Runs.{loss_after}
 use Rattle.search.specs.Cells.{loss_of}
-use Rattle.search.specs.Search.{Laws, Covered}
-use Rattle.search.specs.Rows.{Next, done_in}
+use Rattle.search.specs.Search.{Laws, IsCovered}
+use Rattle.search.specs.Rows.{IsNext, done_in}
 use Rattle.search.specs.declared.cell.Reached.{Reached}
 use Rattle.search.specs.Columns.{cells_of}
 use Rattle.search.proofs.Covers.{step_rises}
@@ -81,7 +81,7 @@ returns g c =
     let inside : at < length rows = omega (arith, one_of g before, c.requires.ready.room.rows_suffice) in
     let place = cell_place c.args.self.now.request c.args.w.to _ at (low g before) c.cell_of-target.ensures in
     let loss = cell_loss c.args.self.now.request c.args.w.to _ at (low g before) c.cell_of-target.ensures ∙ lost g before in
-    let next : Next k m c.args.self.now.request rows at new = record {
+    let next : IsNext k m c.args.self.now.request rows at new = record {
       by = record { from = c.args.from.at; step = c.args.step };
       link = refl;
       before = c.args.from.here;
@@ -104,6 +104,6 @@ returns g c =
         turn = offer_turn k laws m c.args.self.now.request rows rows' waits waits' at new inside o c.args.from.at c.args.from.here turn (up g before) next (let f = turn.books.fewer _ _ turn.row in omega arith);
         keeps = λ p l sum h. offer_covered_on k laws m c.args.self.now.request rows rows' waits waits' at new inside o p l sum h;
       };
-      covered = subst (λ z. Covered k c.args.self.now.request (done_in rows') waits' c.args.w.to (loss_after c.args.step.mark (loss_of c.args.self.now.request c.args.from.at + c.args.w.loss)) z) c.charge_after-charge.ensures
+      covered = subst (λ z. IsCovered k c.args.self.now.request (done_in rows') waits' c.args.w.to (loss_after c.args.step.mark (loss_of c.args.self.now.request c.args.from.at + c.args.w.loss)) z) c.charge_after-charge.ensures
           (offer_covered_at k laws m c.args.self.now.request rows rows' waits waits' at new inside o c.args.w.to _ place loss);
     }

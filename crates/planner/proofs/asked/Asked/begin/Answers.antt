@@ -3,8 +3,8 @@ use Rattle.std.proofs.Common.{◌≡◌, ℕ, ◌+◌, ◌*◌, ◌<◌, min, Li
 use lib.Arith.{digits_lt}
 use lib.ListN.{length-map}
 use Rattle.search.proofs.Tables.{room_kept, indexed_kept, blank_cells, blank_heads}
-use Rattle.site.specs.Whole.{kind_of}
-use Rattle.queue.specs.Waits.{Put}
+use Rattle.subject.specs.Charges.{kind_of}
+use Rattle.subject.specs.Queues.{IsPut}
 use Rattle.search.specs.Search.{Laws}
 use Rattle.search.specs.declared.cell.Cell.{Cell}
 use Rattle.search.specs.declared.cell.Cell.TheVariants.{Waiting}
@@ -40,7 +40,7 @@ returns g c =
     let inside : at < length rows = omega (arith, c.cell_of-first.ensures, c.requires.room.rows_suffice) in
     let many_cells = c.wait.ensures.same.many_cells ∙ c.build.auto.cells ∙ c.clear.auto.cells in
     let written = c.wait.ensures.cells ∙ ap (λ rs. set rs at (Waiting new)) was in
-    let put = subst (λ z. Put empty waits at z) c.nothing.ensures c.wait.ensures.put in
+    let put = subst (λ z. IsPut empty waits at z) c.nothing.ensures c.wait.ensures.put in
     let place = cell_place ask ask.start 0 at (omega arith) c.cell_of-first.ensures in
     let loss = cell_loss ask ask.start 0 at (omega arith) c.cell_of-first.ensures in
     record {

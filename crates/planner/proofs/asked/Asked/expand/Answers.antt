@@ -2,12 +2,12 @@
 -- links no way leaves the place; so the next cell can be taken.
 use Rattle.std.proofs.Common.{◌≡◌, ℕ, ◌+◌, ◌<◌, min, None, Option, length, get_or, sym, ap, ◌∙◌, subst, inl, inr, arith, rules}
 use Rattle.std.proofs.lemmas.Bool.{cases_eq, cases_lt}
-use Rattle.site.specs.Whole.{kind_of}
+use Rattle.subject.specs.Charges.{kind_of}
 use Rattle.search.specs.Cells.{place_of}
-use Rattle.search.specs.Search.{Laws, Offered}
+use Rattle.search.specs.Search.{Laws, IsOffered}
 use Rattle.search.specs.Rows.{done_in}
 use Rattle.search.specs.Columns.{cells_of, heads_of}
-use Rattle.search.specs.Index.{Largest}
+use Rattle.search.specs.Index.{IsLargestOrNone}
 use Rattle.search.proofs.Tables.{read_column}
 use Rattle.search.proofs.Covers.{expanded}
 use Rattle.search.proofs.Trails.{place_below}
@@ -31,7 +31,7 @@ loop-n-preserved g c =
       still_more inv.0 e.rows,
       e.turn,
       λ i a b. elim (cases_eq i c.loop-n.n) [
-        | inl q ↦ subst (λ (z : ℕ). Offered (kind_of g.S.Charge.Charge) m c.args.self.now.request (done_in rows) waits c.args.from.at c.args.from.here.charge z) (sym q) c.offer_way.ensures.offered
+        | inl q ↦ subst (λ (z : ℕ). IsOffered (kind_of g.S.Charge.Charge) m c.args.self.now.request (done_in rows) waits c.args.from.at c.args.from.here.charge z) (sym q) c.offer_way.ensures.offered
         | inr ne ↦ (λ mark w v. e.keeps _ _ _ (inv.2 i a (omega arith) mark w v))
       ],
     )
@@ -46,7 +46,7 @@ loop-after-init g c =
     let rows = c.loop-n.work.cells.now in
     let inside : c.place_of.result < length rows = omega (arith, place_below c.args.self.now.request c.args.from.at, c.place_of.ensures, c.requires.inside, inv.0.same.many_cells) in
     let e = read_column (λ r. r.head) rows c.place_of.result c.index-work-place_of.result None inside ∙ ap (λ (z : ℕ). get_or (heads_of rows) z None) c.place_of.ensures in
-    let l = subst (λ (z : Option ℕ). Largest m p limit z) (sym e) (subst (λ (z : ℕ). Largest m p z (get_or (heads_of rows) p None)) lim (inv.0.ready.indexed.of_place p)) in (
+    let l = subst (λ (z : Option ℕ). IsLargestOrNone m p limit z) (sym e) (subst (λ (z : ℕ). IsLargestOrNone m p z (get_or (heads_of rows) p None)) lim (inv.0.ready.indexed.of_place p)) in (
       still_untouched inv.0.ready,
       inv.1,
       (λ i a b. elim (cases_lt i limit) [ inl h ↦ idle_offered _ (laws_of g) _ _ _ _ _ _ i (largest_none m p limit _ l i a h) | inr h ↦ inv.2 i h (omega arith) ]),
@@ -56,7 +56,7 @@ loop-after-init g c =
 
 -- the link behind the way that was offered: below it stands the next smaller way that leaves the place
 link : (g : given.Over) (c : goal.After-index-work-way g)
-    → Largest (g.S.Site.meaning c.args.self.now.site.now) (place_of c.args.self.now.request c.args.from.at) c.in-Some.way (get_or c.offer_way-in-Some.new.work.cells.now c.in-Some.way c.index-work-way.result).next
+    → IsLargestOrNone (g.S.Site.meaning c.args.self.now.site.now) (place_of c.args.self.now.request c.args.from.at) c.in-Some.way (get_or c.offer_way-in-Some.new.work.cells.now c.in-Some.way c.index-work-way.result).next
 link g c =
     let m = g.S.Site.meaning c.args.self.now.site.now in
     let inv = c.loop-after.invariant in
@@ -69,7 +69,7 @@ link g c =
     let here : left_of c.loop-after.after ≡ way + 1 = ap left_of c.in-Some.is in
     let under : way < min m.ways (length rows) = (let h = inv.3 in omega arith) in
     let e = read_column (λ r. r.next) rows way c.index-work-way.result None (omega arith) in
-    subst (λ (z : Option ℕ). Largest m p way z) (sym e) (o.ensures.still.rows.ready.indexed.of_way way p under (inv.4 way c.in-Some.is))
+    subst (λ (z : Option ℕ). IsLargestOrNone m p way z) (sym e) (o.ensures.still.rows.ready.indexed.of_way way p under (inv.4 way c.in-Some.is))
 
 pub offset_bounds-work-way : goal.offset_bounds-work-way
 offset_bounds-work-way g c =

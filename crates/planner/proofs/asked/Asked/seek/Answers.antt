@@ -2,7 +2,7 @@
 -- lawful; any other cell is settled and its ways are offered, which keeps the state.
 use Rattle.std.proofs.Common.{is_some, refl, ap, arith}
 use lib.ListN.{length-map}
-use Rattle.site.specs.Whole.{kind_of}
+use Rattle.subject.specs.Charges.{kind_of}
 use Rattle.search.specs.Search.{Laws}
 use Rattle.search.proofs.Covers.{no_run}
 use Rattle.search.proofs.Turns.{taken_inside, taken_reached, taken_short, taken_found, settle_turn, settle_count}

@@ -1,6 +1,6 @@
 -- What holds each time that a cell is to be taken, of state, rows and queue; the rows not yet settled get fewer.
 use Rattle.std.proofs.Common.{◌-◌, length}
-use Rattle.site.specs.Whole.{kind_of}
+use Rattle.subject.specs.Charges.{kind_of}
 use Rattle.search.specs.Rows.{settled_count}
 use Rattle.search.specs.Columns.{cells_of}
 use Rattle.planner.specs.Work.{Ready, SameWork, AtRest}

@@ -2,13 +2,13 @@
 -- begins at the start's cell, and the trail is the whole run.
 use Rattle.std.proofs.Common.{◌≡◌, IsSome, is_some, ℕ, suc, ◌-◌, ◌<◌, List, ◌∷◌, length, take, drop, set, Some, sym, ap, ◌∙◌, subst, arith}
 use lib.ListN.{length-map}
-use Rattle.charge.specs.Kind.{Kind}
-use Rattle.site.specs.Whole.{kind_of}
-use Rattle.site.specs.Runs.{Lowest}
-use Rattle.site.specs.Meaning.{SiteMeaning}
-use Rattle.site.specs.declared.run.Step.{Step}
-use Rattle.site.specs.declared.run.Request.{Request}
-use Rattle.search.specs.Rows.{Found, Next, Trail, Whole, reached_row, reached_in}
+use Rattle.subject.specs.Charges.{Kind}
+use Rattle.subject.specs.Charges.{kind_of}
+use Rattle.subject.specs.Runs.{IsLowest}
+use Rattle.subject.specs.Sites.{SiteMeaning}
+use Rattle.subject.specs.declared.run.Step.{Step}
+use Rattle.subject.specs.declared.run.Request.{Request}
+use Rattle.search.specs.Rows.{EndTaken, IsNext, Trail, WholeRun, reached_row, reached_in}
 use Rattle.search.specs.declared.cell.Cell.{Cell}
 use Rattle.search.specs.declared.cell.Link.{Link}
 use Rattle.search.specs.declared.cell.Reached.{Reached}
@@ -18,7 +18,7 @@ use Rattle.search.proofs.Trails.{trail_back, trail_whole, not_first, is_first, b
 use Rattle.planner.proofs.asked.Asked.trace.Goals as goal
 
 -- the cell that was found is the one that is read there, and tells few steps
-module _ {C : Type 0} {k : Kind C} {m : SiteMeaning C} {ask : Request} {rows : List (Cell C)} {x : ℕ} (f : Found k m ask rows x) (end : Reached C) (row : reached_in rows x ≡ Some end) where
+module _ {C : Type 0} {k : Kind C} {m : SiteMeaning C} {ask : Request} {rows : List (Cell C)} {x : ℕ} (f : EndTaken k m ask rows x) (end : Reached C) (row : reached_in rows x ≡ Some end) where
   is_end : f.last ≡ end
   is_end = some_same (sym f.row ∙ row)
 
@@ -26,8 +26,8 @@ module _ {C : Type 0} {k : Kind C} {m : SiteMeaning C} {ask : Request} {rows : L
   few_steps = let same : f.last.steps ≡ end.steps = ap (λ (z : Reached C). z.steps) is_end in omega (arith, f.few)
 
 -- a cell with steps was reached over a link from a settled cell
-module _ {C : Type 0} {k : Kind C} {m : SiteMeaning C} {ask : Request} {rows : List (Cell C)} {x : ℕ} (f : Found k m ask rows x) (y : ℕ) (here : Reached C) (row : reached_in rows y ≡ Some here) (more : 0 < here.steps) where
-  next : Next k m ask rows y here
+module _ {C : Type 0} {k : Kind C} {m : SiteMeaning C} {ask : Request} {rows : List (Cell C)} {x : ℕ} (f : EndTaken k m ask rows x) (y : ℕ) (here : Reached C) (row : reached_in rows y ≡ Some here) (more : 0 < here.steps) where
+  next : IsNext k m ask rows y here
   next = not_first k m ask rows y here (f.linked y here row) more
 
   has_link : IsSome here.link
@@ -99,12 +99,12 @@ returns g c =
     let end = c.reached_at-end.result in
     let none : c.loop-left.left ≡ 0 = omega arith in
     let whole = trail_whole _ _ _ _ _ here _ end.charge (is_first _ _ _ _ _ here (f.linked _ here w.1) (inv.1 ∙ none)) w.2 in
-    let all : Whole k m c.args.self.now.request run end.charge = subst (λ (i : ℕ). Whole k m c.args.self.now.request (drop i run) end.charge) none whole in
+    let all : WholeRun k m c.args.self.now.request run end.charge = subst (λ (i : ℕ). WholeRun k m c.args.self.now.request (drop i run) end.charge) none whole in
     let few = few_steps f end c.reached_at-end.ensures in
     let size = length-map c.args.work.now.cells.now (λ r. r.cell) in
     record {
       steps = omega (arith, c.requires.room);
-      least = record { lawful = all.lawful; comes_to = all.comes_to; lowest = subst (λ (z : Reached _). Lowest k m c.args.self.now.request z.charge) (is_end f end c.reached_at-end.ensures) f.lowest };
+      least = record { lawful = all.lawful; comes_to = all.comes_to; lowest = subst (λ (z : Reached _). IsLowest k m c.args.self.now.request z.charge) (is_end f end c.reached_at-end.ensures) f.lowest };
       once = all.once;
       behind = inv.0;
     }

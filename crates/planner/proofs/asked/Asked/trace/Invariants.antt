@@ -1,6 +1,6 @@
 -- The steps written so far are a trail from the cell `at` to the end; as many are left as that cell has steps.
 use Rattle.std.proofs.Common.{◌≡◌, ℕ, take, drop, Some}
-use Rattle.site.specs.Whole.{kind_of}
+use Rattle.subject.specs.Charges.{kind_of}
 use Rattle.search.specs.Rows.{Trail, reached_in}
 use Rattle.search.specs.Columns.{cells_of}
 use Rattle.planner.proofs.asked.Asked.trace.Given as goal

@@ -1,6 +1,6 @@
 -- A dominated cell's ways count as offered; another cell's are offered.
 use Rattle.std.proofs.Common.{refl, arith}
-use Rattle.site.specs.Whole.{kind_of}
+use Rattle.subject.specs.Charges.{kind_of}
 use Rattle.search.specs.Search.{Laws}
 use Rattle.search.specs.Rows.{done_in}
 use Rattle.search.specs.Columns.{cells_of}

@@ -1,7 +1,7 @@
 -- An offer is written where it improves the cell, and the queue has room for it; else the cell is held with no more already.
 use Rattle.std.proofs.Common.{◌<◌, length, sym, arith}
 use lib.ListN.{length-map}
-use Rattle.site.specs.Whole.{kind_of}
+use Rattle.subject.specs.Charges.{kind_of}
 use Rattle.search.specs.Search.{Laws}
 use Rattle.search.specs.Columns.{cells_of}
 use Rattle.search.proofs.Tables.{offered_over, offered_none, nth_column}

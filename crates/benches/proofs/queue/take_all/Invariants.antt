@@ -1,0 +1,5 @@
+-- the queue stays in order
+use Rattle.benches.proofs.take_all.Given as goal
+
+abbrev pub invariant-loop-place : goal.invariant-loop-place
+invariant-loop-place g l = g.Q.PriorityQueue.ordered l.queue

@@ -1,3 +1,0 @@
-pub mod Kind
-pub mod Moneys
-pub mod Grades

@@ -1,2 +1,0 @@
-mod Fills
-mod Fronts

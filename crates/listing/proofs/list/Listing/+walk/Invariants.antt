@@ -1,4 +1,0 @@
-use Rattle.listing.proofs.list.Listing.+walk.Given as goal
-
-abbrev pub decreases-walk : goal.decreases-walk
-decreases-walk l = l.depth

@@ -1,5 +1,0 @@
--- the queue stays in order
-use Rattle.queue_bench.proofs.take_all.Given as goal
-
-abbrev pub invariant-loop-place : goal.invariant-loop-place
-invariant-loop-place g l = g.Q.PriorityQueue.ordered l.queue

@@ -1,4 +1,0 @@
-pub mod Rows
-pub mod Order
-pub mod Waiting
-pub mod Queues

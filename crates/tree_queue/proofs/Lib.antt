@@ -1,0 +1,11 @@
+pub mod Columns
+pub mod Ranks
+pub mod Related
+pub mod Swaps
+pub mod Climb
+pub mod Sink
+pub mod Changes
+pub mod Entry
+pub mod Recharge
+pub mod Top
+pub mod Lowest

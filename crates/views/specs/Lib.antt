@@ -1,2 +1,0 @@
-pub mod SurveySite
-pub mod Bounds
