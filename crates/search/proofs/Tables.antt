@@ -17,7 +17,7 @@ use Rattle.std.specs.Borrow.{GName}
 use Rattle.search.specs.Lends.{SameLenders}
 use Rattle.search.specs.declared.memory.Memory.{Memory}
 use Rattle.search.specs.Index.{IsIndexed}
-use Rattle.search.specs.declared.cell.CellRow.{Row}
+use Rattle.search.specs.declared.cell.CellRow.{CellRow}
 use Rattle.search.specs.declared.cell.Cell.{Cell}
 use Rattle.search.specs.declared.cell.Cell.TheVariants.{Unseen, Waiting, Settled}
 use Rattle.search.specs.declared.cell.Reached.{Reached}
@@ -37,11 +37,11 @@ module _ {C : Type 0} (k : Kind C) (laws : Laws k) (rows : List (Cell C)) (waits
   clear_of (Waiting r) h = refl
   clear_of (Settled r) h = absurd (let z : ◌≡◌ {A = ℕ} 0 1 = cc in omega arith)
 
-  not_less : (c : Cell C) (e : C) → improves k c new.charge ≡ true → waits_as c ≡ Some e → k.within new.charge e ≡ true
+  not_less : (c : Cell C) (e : C) → improves k c new.charge ≡ true → waits_as c ≡ Some e → k.no_more new.charge e ≡ true
   not_less Unseen e h w = absurd (let z : ◌≡◌ {A = ℕ} 0 1 = cc in omega arith)
   not_less (Waiting r) e h w =
       let de : r.charge ≡ e = cc in
-      laws.total e new.charge (rw (← de) (not-true (k.within r.charge new.charge) h))
+      laws.total e new.charge (rw (← de) (not-true (k.no_more r.charge new.charge) h))
   not_less (Settled r) e h w = absurd (let z : ◌≡◌ {A = ℕ} 0 1 = cc in omega arith)
 
   pub offered_over : improves k old new.charge ≡ true → IsPut waits waits' at new.charge → OfferOutcome k rows (set rows at (Waiting new)) waits waits' at new
@@ -62,12 +62,12 @@ module _ {C : Type 0} (k : Kind C) (laws : Laws k) (rows : List (Cell C)) (waits
     change = inr (refl, ap settled_row row ∙ clear_of old h);
   }
 
-  kept_as : (c : Cell C) → improves k c new.charge ≡ false → ((e : C) → settled_as c ≡ Some e → k.within e new.charge ≡ true) → (d : C) × (k.within d new.charge ≡ true) × ((settled_as c ≡ Some d) ⊎ (waits_as c ≡ Some d))
+  kept_as : (c : Cell C) → improves k c new.charge ≡ false → ((e : C) → settled_as c ≡ Some e → k.no_more e new.charge ≡ true) → (d : C) × (k.no_more d new.charge ≡ true) × ((settled_as c ≡ Some d) ⊎ (waits_as c ≡ Some d))
   kept_as Unseen h low = absurd (let z : ◌≡◌ {A = ℕ} 0 1 = cc in omega arith)
-  kept_as (Waiting r) h low = (r.charge, not-false (k.within r.charge new.charge) h, inr refl)
+  kept_as (Waiting r) h low = (r.charge, not-false (k.no_more r.charge new.charge) h, inr refl)
   kept_as (Settled r) h low = (r.charge, low r.charge refl, inl refl)
 
-  pub offered_none : improves k old new.charge ≡ false → ((e : C) → done_in rows at ≡ Some e → k.within e new.charge ≡ true) → OfferOutcome k rows rows waits waits at new
+  pub offered_none : improves k old new.charge ≡ false → ((e : C) → done_in rows at ≡ Some e → k.no_more e new.charge ≡ true) → OfferOutcome k rows rows waits waits at new
   unfolding done_in
   offered_none h low =
       let p = kept_as old h (λ e q. low e (ap settled_row row ∙ q)) in
@@ -109,14 +109,14 @@ blank_heads C (suc n) (suc p) = blank_heads C n p
 pub nth_column : {A B : Type 0} (f : A → B) (rows : List A) (i : ℕ) (d : A) → i < length rows → slice_get (map f rows) i ≡ Some (f (get_or rows i d))
 nth_column f rows i d h = grind (arith, common_steps, gets)
 
-pub same_lenders : {C Q : Type 0} {lenders : Q → List GName} {a b c : Memory C Q} → SameLenders lenders a b → SameLenders lenders b c → SameLenders lenders a c
-same_lenders p q = record { cells = q.cells ∙ p.cells; queue = q.queue ∙ p.queue; run = q.run ∙ p.run; many_cells = q.many_cells ∙ p.many_cells; many_steps = q.many_steps ∙ p.many_steps }
+pub same_lenders : {C Q : Type 0} {l : QueueGhosts Q C} {a b c : Memory C Q} → SameLenders l a b → SameLenders l b c → SameLenders l a c
+same_lenders p q = record { cells = q.cells ∙ p.cells; queue = q.queue ∙ p.queue; run = q.run ∙ p.run; cell_count = q.cell_count ∙ p.cell_count; step_count = q.step_count ∙ p.step_count }
 
-pub room_kept : {C : Type 0} (m : SiteMeaning C) (ask : Request) (n n' many many' : ℕ) → n' ≡ n → many' ≡ many → RoomSuffices m ask n many → RoomSuffices m ask n' many'
-room_kept m ask n n' many many' p q r = record { bound = r.bound; fits = omega (arith, r.fits); rows_suffice = omega (arith, r.rows_suffice); queue_suffices = omega (arith, r.queue_suffices) }
+pub room_kept : {C : Type 0} (P : Problem C) (n n' many many' : ℕ) → n' ≡ n → many' ≡ many → RoomSuffices P n many → RoomSuffices P n' many'
+room_kept P n n' many many' p q r = record { bound = r.bound; fits = omega (arith, r.fits); cells_suffice = omega (arith, r.cells_suffice); queue_suffices = omega (arith, r.queue_suffices) }
 
 pub read_column : {A B : Type 0} (f : A → B) (rows : List A) (i : ℕ) (d : A) (e : B) → i < length rows → f (get_or rows i d) ≡ get_or (map f rows) i e
 read_column f rows i d e h = sym (get_or-map f rows i d e h)
 
-pub indexed_kept : {C : Type 0} (m : SiteMeaning C) (rows rows' : List (Row C)) (n n' : ℕ) → n ≡ n' → SameIndex rows rows' → IsIndexed m (heads_of rows) (nexts_of rows) n → IsIndexed m (heads_of rows') (nexts_of rows') n'
+pub indexed_kept : {C : Type 0} (m : SiteMeaning C) (rows rows' : List (CellRow C)) (n n' : ℕ) → n ≡ n' → SameIndex rows rows' → IsIndexed m (heads_of rows) (nexts_of rows) n → IsIndexed m (heads_of rows') (nexts_of rows') n'
 indexed_kept m rows rows' n n' e s ix = rw (s.heads, s.nexts, ← e) ix

@@ -69,9 +69,9 @@ count_most [] = omega arith
 count_most (r ∷ rs) = let h = count_most rs in let o = one_most r in omega arith
 
 -- a link survives where the settled rows stay, since it leads to one of them
-linked_still : {C : Type 0} (k : Kind C) (m : SiteMeaning C) (ask : Request) (rows rows' : List (Cell C)) → ((z : ℕ) (r : Reached C) → slice_get rows z ≡ Some (Settled r) → slice_get rows' z ≡ Some (Settled r))
-    → (z : ℕ) (r : Reached C) → IsLinked k m ask rows z r → IsLinked k m ask rows' z r
-linked_still k m ask rows rows' stays z r l = elim l [
+linked_still : {C : Type 0} (P : Problem C) (rows rows' : List (Cell C)) → ((z : ℕ) (r : Reached C) → slice_get rows z ≡ Some (Settled r) → slice_get rows' z ≡ Some (Settled r))
+    → (z : ℕ) (r : Reached C) → IsLinked P rows z r → IsLinked P rows' z r
+linked_still P rows rows' stays z r l = elim l [
   | inl f ↦ inl f
   | inr n ↦ inr (record {
     by = n.by;
@@ -96,8 +96,8 @@ count_short (q ∷ qs) zero r e =
     omega arith
 count_short (q ∷ qs) (suc at) r e = let h = count_short qs at r e in let o = one_most q in omega arith
 
-module _ {C : Type 0} (k : Kind C) (laws : Laws k) (m : SiteMeaning C) (ask : Request) (rows rows' : List (Cell C)) (waits waits' : ℕ → Option C) (at : ℕ) (new : Reached C)
-    (inside : at < length rows) (o : OfferOutcome k rows rows' waits waits' at new) where
+module _ {C : Type 0} (P : Problem C) (laws : Laws P.kind) (rows rows' : List (Cell C)) (waits waits' : ℕ → Option C) (at : ℕ) (new : Reached C)
+    (inside : at < length rows) (o : OfferOutcome P.kind rows rows' waits waits' at new) where
   pub offer_done : (z : ℕ) → done_in rows' z ≡ done_in rows z
   unfolding done_in
   offer_done z = elim o.change [
@@ -121,8 +121,8 @@ module _ {C : Type 0} (k : Kind C) (laws : Laws k) (m : SiteMeaning C) (ask : Re
     | inr p ↦ ap (λ rs. slice_get rs z) p.0 ∙ nth_set_other rows at z (Waiting new) (λ q. none_some p.1 (ap (done_in rows) (sym q) ∙ done_row rows z r e)) ∙ e
   ]
 
-  linked_kept : (z : ℕ) (r : Reached C) → IsLinked k m ask rows z r → IsLinked k m ask rows' z r
-  linked_kept = linked_still k m ask rows rows' offer_row
+  linked_kept : (z : ℕ) (r : Reached C) → IsLinked P rows z r → IsLinked P rows' z r
+  linked_kept = linked_still P rows rows' offer_row
 
   -- each cell reached after the offer was reached so before, or is the one offered
   was : (z : ℕ) (r : Reached C) → reached_in rows' z ≡ Some r → (reached_in rows z ≡ Some r) ⊎ ((z ≡ at) × (r ≡ new))
@@ -143,8 +143,8 @@ module _ {C : Type 0} (k : Kind C) (laws : Laws k) (m : SiteMeaning C) (ask : Re
     ]
   ]
 
-  module _ (b : Bookkeeping k m ask rows waits) (link : IsNext k m ask rows at new) (few : new.steps ≤ settled_count rows) where
-    pub offer_books : Bookkeeping k m ask rows' waits'
+  module _ (b : Bookkeeping P rows waits) (link : IsNext P rows at new) (few : new.steps ≤ settled_count rows) where
+    pub offer_books : Bookkeeping P rows' waits'
     offer_books = record {
       agree = o.agree;
       linked = λ z r e. elim (was z r e) [
@@ -158,21 +158,21 @@ module _ {C : Type 0} (k : Kind C) (laws : Laws k) (m : SiteMeaning C) (ask : Re
       fewer = λ z r e. (let f = b.fewer z r (was_settled z r e) in let c = offer_count in omega arith);
     }
 
-  pub offer_turn : (x : ℕ) (here : Reached C) → TurnState k m ask rows waits x here → k.within here.charge new.charge ≡ true → IsNext k m ask rows at new → new.steps ≤ settled_count rows → TurnState k m ask rows' waits' x here
+  pub offer_turn : (x : ℕ) (here : Reached C) → TurnState P rows waits x here → P.kind.no_more here.charge new.charge ≡ true → IsNext P rows at new → new.steps ≤ settled_count rows → TurnState P rows' waits' x here
   offer_turn x here turn up link few = record {
-    expanding = subst (λ d. ExpandState k m ask d waits' x here.charge) (sym (fun_ext offer_done)) (offer_keeps k laws m ask (done_in rows) waits waits' at new.charge o.entered x here.charge up turn.expanding);
+    expanding = subst (λ d. ExpandState P d waits' x here.charge) (sym (fun_ext offer_done)) (offer_keeps P laws (done_in rows) waits waits' at new.charge o.entered x here.charge up turn.expanding);
     books = offer_books turn.books link few;
     row = offer_row x here turn.row;
   }
 
-  pub offer_covered_at : (p l : ℕ) → place_of ask at ≡ p → loss_of ask at ≡ l → IsCovered k ask (done_in rows') waits' p l new.charge
-  offer_covered_at p l a b = subst (λ d. IsCovered k ask d waits' p l new.charge) (sym (fun_ext offer_done)) (offer_covers k laws m ask (done_in rows) waits waits' at new.charge o.entered p l a b)
+  pub offer_covered_at : (p l : ℕ) → place_of P at ≡ p → loss_of P at ≡ l → IsCovered P (done_in rows') waits' p l new.charge
+  offer_covered_at p l a b = subst (λ d. IsCovered P d waits' p l new.charge) (sym (fun_ext offer_done)) (offer_covers P laws (done_in rows) waits waits' at new.charge o.entered p l a b)
 
-  pub offer_covered_on : CoverStays k ask (done_in rows) waits (done_in rows') waits'
-  offer_covered_on p l sum h = subst (λ d. IsCovered k ask d waits' p l sum) (sym (fun_ext offer_done)) (offer_covered k laws m ask (done_in rows) waits waits' at new.charge o.entered h)
+  pub offer_covered_on : CoverStays P (done_in rows) waits (done_in rows') waits'
+  offer_covered_on p l sum h = subst (λ d. IsCovered P d waits' p l sum) (sym (fun_ext offer_done)) (offer_covered P laws (done_in rows) waits waits' at new.charge o.entered h)
 
-module _ {C : Type 0} (k : Kind C) (laws : Laws k) (m : SiteMeaning C) (ask : Request) (rows rows' : List (Cell C)) (waits waits' : ℕ → Option C) (at : ℕ) (c : C) (here : Reached C)
-    (inside : at < length rows) (b : Bookkeeping k m ask rows waits) (taken : IsTaken k.within waits waits' at c) (s : SettleOutcome rows rows' at here) where
+module _ {C : Type 0} (P : Problem C) (laws : Laws P.kind) (rows rows' : List (Cell C)) (waits waits' : ℕ → Option C) (at : ℕ) (c : C) (here : Reached C)
+    (inside : at < length rows) (b : Bookkeeping P rows waits) (taken : IsTaken P.kind.no_more waits waits' at c) (s : SettleOutcome rows rows' at here) where
   was_waiting : (slice_get rows at ≡ Some (Waiting here)) × (here.charge ≡ c)
   was_waiting =
       let w = row_waits rows at c (sym (b.agree at) ∙ taken.waited) in
@@ -202,8 +202,8 @@ module _ {C : Type 0} (k : Kind C) (laws : Laws k) (m : SiteMeaning C) (ask : Re
   settled_row_stays : (z : ℕ) (r : Reached C) → slice_get rows z ≡ Some (Settled r) → slice_get rows' z ≡ Some (Settled r)
   settled_row_stays z r e = other_row z (λ a. none_some fresh (ap (done_in rows) (sym a) ∙ done_row rows z r e)) ∙ e
 
-  kept_linked : (z : ℕ) (r : Reached C) → IsLinked k m ask rows z r → IsLinked k m ask rows' z r
-  kept_linked = linked_still k m ask rows rows' settled_row_stays
+  kept_linked : (z : ℕ) (r : Reached C) → IsLinked P rows z r → IsLinked P rows' z r
+  kept_linked = linked_still P rows rows' settled_row_stays
 
   -- settling a cell changes nothing of how any cell was reached
   reached_same : (z : ℕ) → reached_in rows z ≡ reached_in rows' z
@@ -212,7 +212,7 @@ module _ {C : Type 0} (k : Kind C) (laws : Laws k) (m : SiteMeaning C) (ask : Re
     | inr ne ↦ ap reached_row (sym (other_row z ne))
   ]
 
-  settle_books : Bookkeeping k m ask rows' waits'
+  settle_books : Bookkeeping P rows' waits'
   settle_books = record {
     agree = λ x. elim (cases_eq x at) [
       | inl e ↦ ap waits' e ∙ taken.gone ∙ sym (ap waits_row here_row) ∙ ap (λ y. waits_row (slice_get rows' y)) (sym e)
@@ -223,9 +223,9 @@ module _ {C : Type 0} (k : Kind C) (laws : Laws k) (m : SiteMeaning C) (ask : Re
     fewer = λ z r e. (let f = b.few z r (reached_same z ∙ ap reached_row e) in let n = settle_count in omega arith);
   }
 
-  pub settle_turn : SearchState k m ask (done_in rows) waits → place_of ask at ≢ ask.end → TurnState k m ask rows' waits' at here
+  pub settle_turn : SearchState P (done_in rows) waits → place_of P at ≢ P.request.end → TurnState P rows' waits' at here
   settle_turn inv ne = record {
-    expanding = subst (λ d. ExpandState k m ask (done_in rows') waits' at d) (sym was_waiting.1) (take_keeps k laws m ask (done_in rows) waits (done_in rows') waits' at c inv fresh taken settle_put ne);
+    expanding = subst (λ d. ExpandState P (done_in rows') waits' at d) (sym was_waiting.1) (take_keeps P laws (done_in rows) waits (done_in rows') waits' at c inv fresh taken settle_put ne);
     books = settle_books;
     row = here_row;
   }
@@ -236,8 +236,8 @@ nth_inside (y ∷ ys) zero x e = omega arith
 nth_inside (y ∷ ys) (suc i) x e = let h = nth_inside ys i x e in omega arith
 
 -- a taken cell: it has a waiting row, and where it is one of the end the search has found its run
-module _ {C : Type 0} (k : Kind C) (laws : Laws k) (m : SiteMeaning C) (ask : Request) (rows : List (Cell C)) (waits waits' : ℕ → Option C) (at : ℕ) (c : C)
-    (b : Bookkeeping k m ask rows waits) (taken : IsTaken k.within waits waits' at c) where
+module _ {C : Type 0} (P : Problem C) (laws : Laws P.kind) (rows : List (Cell C)) (waits waits' : ℕ → Option C) (at : ℕ) (c : C)
+    (b : Bookkeeping P rows waits) (taken : IsTaken P.kind.no_more waits waits' at c) where
   pub taken_row : (r : Reached C) × (slice_get rows at ≡ Some (Waiting r)) × (r.charge ≡ c)
   taken_row = row_waits rows at c (sym (b.agree at) ∙ taken.waited)
 
@@ -250,22 +250,22 @@ module _ {C : Type 0} (k : Kind C) (laws : Laws k) (m : SiteMeaning C) (ask : Re
   pub taken_short : settled_count rows < length rows
   taken_short = count_short rows at taken_row.0 taken_row.1
 
-  pub taken_found : SearchState k m ask (done_in rows) waits → place_of ask at ≡ ask.end → EndTaken k m ask rows at
+  pub taken_found : SearchState P (done_in rows) waits → place_of P at ≡ P.request.end → EndTaken P rows at
   taken_found inv e =
       let w = taken_row in
       record {
         last = w.0;
         row = taken_reached;
         end = e;
-        lowest = rw w.2 (lowest k laws m ask (done_in rows) waits c inv taken.least);
+        lowest = rw w.2 (lowest P laws (done_in rows) waits c inv taken.least);
         linked = b.linked;
         few = (let f = b.few at w.0 taken_reached in let s = taken_short in omega arith);
       }
 
 -- the beginning: one row waits, and no other was reached
-module _ {C : Type 0} (k : Kind C) (laws : Laws k) (m : SiteMeaning C) (ask : Request) (rows rows' : List (Cell C)) (empty waits : ℕ → Option C) (at : ℕ) (new : Reached C)
+module _ {C : Type 0} (P : Problem C) (laws : Laws P.kind) (rows rows' : List (Cell C)) (empty waits : ℕ → Option C) (at : ℕ) (new : Reached C)
     (inside : at < length rows) (blank : (x : ℕ) (c : Cell C) → slice_get rows x ≡ Some c → c ≡ Unseen) (written : rows' ≡ set rows at (Waiting new)) (none : (x : ℕ) → empty x ≡ None)
-    (put : IsPut empty waits at k.free) (charge : new.charge ≡ k.free) (link : new.link ≡ None) (steps : new.steps ≡ 0) (place : place_of ask at ≡ ask.start) (loss : loss_of ask at ≡ 0) where
+    (put : IsPut empty waits at P.kind.nothing) (charge : new.charge ≡ P.kind.nothing) (link : new.link ≡ None) (steps : new.steps ≡ 0) (place : place_of P at ≡ P.request.start) (loss : loss_of P at ≡ 0) where
   new_row : slice_get rows' at ≡ Some (Waiting new)
   new_row = ap (λ rs. slice_get rs at) written ∙ nth_set_same rows at (Waiting new) inside
 
@@ -290,7 +290,7 @@ module _ {C : Type 0} (k : Kind C) (laws : Laws k) (m : SiteMeaning C) (ask : Re
     | inr ne ↦ absurd (none_some (other_rows x ne).2 e)
   ]
 
-  pub start_books : Bookkeeping k m ask rows' waits
+  pub start_books : Bookkeeping P rows' waits
   start_books = record {
     agree = λ x. elim (cases_eq x at) [
       | inl a ↦ ap waits a ∙ put.here ∙ ap Some (sym charge) ∙ sym (ap waits_row new_row) ∙ ap (λ y. waits_row (slice_get rows' y)) (sym a)
@@ -298,10 +298,10 @@ module _ {C : Type 0} (k : Kind C) (laws : Laws k) (m : SiteMeaning C) (ask : Re
     ];
     linked = λ x r e. (
         let p = only_new x r e in
-        inl (record { place = ap (place_of ask) p.0 ∙ place; loss = ap (loss_of ask) p.0 ∙ loss; link = ap (λ (z : Reached C). z.link) p.1 ∙ link; steps = ap (λ (z : Reached C). z.steps) p.1 ∙ steps; charge = ap (λ (z : Reached C). z.charge) p.1 ∙ charge }));
+        inl (record { place = ap (place_of P) p.0 ∙ place; loss = ap (loss_of P) p.0 ∙ loss; link = ap (λ (z : Reached C). z.link) p.1 ∙ link; steps = ap (λ (z : Reached C). z.steps) p.1 ∙ steps; charge = ap (λ (z : Reached C). z.charge) p.1 ∙ charge }));
     few = λ x r e. (let a : r.steps ≡ 0 = ap (λ (z : Reached C). z.steps) (only_new x r e).1 ∙ steps in omega arith);
     fewer = λ x r e. absurd (none_some (none_done x) (done_row rows' x r e));
   }
 
-  pub start_search : SearchState k m ask (done_in rows') waits
-  start_search = start_holds k laws m ask (done_in rows') waits at none_done (record { here = put.here; others = λ x ne. put.others x ne ∙ none x }) place loss
+  pub start_search : SearchState P (done_in rows') waits
+  start_search = start_holds P laws (done_in rows') waits at none_done (record { here = put.here; others = λ x ne. put.others x ne ∙ none x }) place loss

@@ -74,21 +74,21 @@ module _ {C : Type 0} (m : SiteMeaning C) (n : ℕ) (heads nexts : List (Option 
     ];
   }
 
-module _ {C : Type 0} (k : Kind C) (laws : Laws k) (m : SiteMeaning C) (ask : Request) (done waits : ℕ → Option C) (x : ℕ) (c : C) where
+module _ {C : Type 0} (P : Problem C) (laws : Laws P.kind) (done waits : ℕ → Option C) (x : ℕ) (c : C) where
   -- a way that does not leave the cell's place has nothing to offer
-  pub idle_offered : (i : ℕ) → (IsWayFrom m (place_of ask x) i → ⊥) → IsOffered k m ask done waits x c i
+  pub idle_offered : (i : ℕ) → (IsWayFrom P.site (place_of P x) i → ⊥) → IsOffered P done waits x c i
   idle_offered i away mark w g = absurd (away (w, g.opens, g.leaves))
 
   -- one link of the walk, from the way `here` to `next`: the ways between them have nothing to offer
-  pub walked : (done' waits' : ℕ → Option C) (ways here : ℕ) (next : Option ℕ) → CoverStays k ask done waits done' waits'
-      → ((i : ℕ) → here + 1 ≤ i → i < ways → IsOffered k m ask done waits x c i)
-      → IsOffered k m ask done' waits' x c here → IsLargestOrNone m (place_of ask x) here next
-      → (i : ℕ) → left_of next ≤ i → i < ways → IsOffered k m ask done' waits' x c i
+  pub walked : (done' waits' : ℕ → Option C) (ways here : ℕ) (next : Option ℕ) → CoverStays P done waits done' waits'
+      → ((i : ℕ) → here + 1 ≤ i → i < ways → IsOffered P done waits x c i)
+      → IsOffered P done' waits' x c here → IsLargestOrNone P.site (place_of P x) here next
+      → (i : ℕ) → left_of next ≤ i → i < ways → IsOffered P done' waits' x c i
   walked done' waits' ways here next keeps before now l i a b =
       elim (cases_lt here i) [
         | inl h ↦ (λ mark w g. keeps _ _ _ (before i (omega arith) b mark w g))
         | inr h ↦ elim (cases_eq i here) [
-          | inl e ↦ subst (λ (z : ℕ). IsOffered k m ask done' waits' x c z) (sym e) now
-          | inr ne ↦ (λ mark w g. absurd (largest_none m (place_of ask x) here next l i a (omega arith) (w, g.opens, g.leaves)))
+          | inl e ↦ subst (λ (z : ℕ). IsOffered P done' waits' x c z) (sym e) now
+          | inr ne ↦ (λ mark w g. absurd (largest_none P.site (place_of P x) here next l i a (omega arith) (w, g.opens, g.leaves)))
         ]
       ]

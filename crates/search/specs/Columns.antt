@@ -3,15 +3,15 @@ use Rattle.std.specs.Prelude.{◌≡◌, ℕ, List, map, Some, None, Option}
 use Rattle.search.specs.declared.cell.Cell.{Cell}
 use Rattle.search.specs.declared.cell.Cell.TheVariants.{Unseen, Waiting, Settled}
 use Rattle.search.specs.declared.cell.Reached.{Reached}
-use Rattle.search.specs.declared.cell.CellRow.{Row}
+use Rattle.search.specs.declared.cell.CellRow.{CellRow}
 
-abbrev pub cells_of : {C : Type 0} → List (Row C) → List (Cell C)
+abbrev pub cells_of : {C : Type 0} → List (CellRow C) → List (Cell C)
 cells_of rows = map (λ r. r.cell) rows
 
-abbrev pub heads_of : {C : Type 0} → List (Row C) → List (Option ℕ)
+abbrev pub heads_of : {C : Type 0} → List (CellRow C) → List (Option ℕ)
 heads_of rows = map (λ r. r.head) rows
 
-abbrev pub nexts_of : {C : Type 0} → List (Row C) → List (Option ℕ)
+abbrev pub nexts_of : {C : Type 0} → List (CellRow C) → List (Option ℕ)
 nexts_of rows = map (λ r. r.next) rows
 
 -- how a cell was reached, where it was
@@ -21,10 +21,10 @@ reached_as (Waiting r) = Some r
 reached_as (Settled r) = Some r
 
 -- a row that tells nothing
-abbrev pub blank_row : {C : Type 0} → Row C
+abbrev pub blank_row : {C : Type 0} → CellRow C
 blank_row = record { cell = Unseen; hint = None; head = None; next = None }
 
 -- the index of the ways is as it was
-pub record SameIndex {C : Type 0} (rows rows' : List (Row C)) : Type 0 where
+pub record SameIndex {C : Type 0} (rows rows' : List (CellRow C)) : Type 0 where
   pub heads : heads_of rows' ≡ heads_of rows
   pub nexts : nexts_of rows' ≡ nexts_of rows

@@ -4,5 +4,5 @@ pub mod Search
 pub mod Rows
 pub mod Columns
 pub mod Index
-pub mod Lends
-pub mod Fillings
+pub mod Memories
+pub mod Owned

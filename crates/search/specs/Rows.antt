@@ -61,41 +61,41 @@ settled_count [] = 0
 settled_count (c ∷ cs) = one_if c + settled_count cs
 
 -- the cell x is the one in which the run starts, and r tells so
-pub record IsFirst {C : Type 0} (k : Kind C) (ask : Request) (x : ℕ) (r : Reached C) : Type 0 where
-  pub place : place_of ask x ≡ ask.start
-  pub loss : loss_of ask x ≡ 0
+pub record IsFirst {C : Type 0} (P : Problem C) (x : ℕ) (r : Reached C) : Type 0 where
+  pub place : place_of P x ≡ P.request.start
+  pub loss : loss_of P x ≡ 0
   pub link : r.link ≡ None
   pub steps : r.steps ≡ 0
-  pub charge : r.charge ≡ k.free
+  pub charge : r.charge ≡ P.kind.nothing
 
 -- r tells a lawful step to the cell x from a settled cell, and has that cell's charge and steps with the step's added
-pub record IsNext {C : Type 0} (k : Kind C) (m : SiteMeaning C) (ask : Request) (rows : List (Cell C)) (x : ℕ) (r : Reached C) : Type 0 where
+pub record IsNext {C : Type 0} (P : Problem C) (rows : List (Cell C)) (x : ℕ) (r : Reached C) : Type 0 where
   pub by : Link
   pub link : r.link ≡ Some by
   pub before : Reached C
   pub row : slice_get rows by.from ≡ Some (Settled before)
   pub over : Way C
-  pub goes : IsStepOver m ask (place_of ask by.from) (loss_of ask by.from) by.step over
-  pub place : place_of ask x ≡ over.to
-  pub loss : loss_of ask x ≡ loss_after by.step.mark (loss_of ask by.from + over.loss)
-  pub charge : r.charge ≡ after_way k m before.charge by.step.mark (Some over)
+  pub goes : IsStepOver P (place_of P by.from) (loss_of P by.from) by.step over
+  pub place : place_of P x ≡ over.to
+  pub loss : loss_of P x ≡ loss_after by.step.mark (loss_of P by.from + over.loss)
+  pub charge : r.charge ≡ after_way P before.charge by.step.mark (Some over)
   pub steps : r.steps ≡ before.steps + 1
 
-abbrev pub IsLinked : {C : Type 0} → Kind C → SiteMeaning C → Request → List (Cell C) → ℕ → Reached C → Type 0
-IsLinked k m ask rows x r = IsFirst k ask x r ⊎ IsNext k m ask rows x r
+abbrev pub IsLinked : {C : Type 0} → Problem C → List (Cell C) → ℕ → Reached C → Type 0
+IsLinked P rows x r = IsFirst P x r ⊎ IsNext P rows x r
 
 -- rows and queue agree; each cell that was reached tells how; and its steps are no more than the settled rows, less than
 -- them where it is one of them
-pub record Bookkeeping {C : Type 0} (k : Kind C) (m : SiteMeaning C) (ask : Request) (rows : List (Cell C)) (waits : ℕ → Option C) : Type 0 where
+pub record Bookkeeping {C : Type 0} (P : Problem C) (rows : List (Cell C)) (waits : ℕ → Option C) : Type 0 where
   pub agree : QueueAgrees rows waits
-  pub linked : (x : ℕ) (r : Reached C) → reached_in rows x ≡ Some r → IsLinked k m ask rows x r
+  pub linked : (x : ℕ) (r : Reached C) → reached_in rows x ≡ Some r → IsLinked P rows x r
   pub few : (x : ℕ) (r : Reached C) → reached_in rows x ≡ Some r → r.steps ≤ settled_count rows
   pub fewer : (x : ℕ) (r : Reached C) → slice_get rows x ≡ Some (Settled r) → r.steps < settled_count rows
 
 -- what holds while the ways out of the cell x, which was settled as `here`, are being offered
-pub record TurnState {C : Type 0} (k : Kind C) (m : SiteMeaning C) (ask : Request) (rows : List (Cell C)) (waits : ℕ → Option C) (x : ℕ) (here : Reached C) : Type 0 where
-  pub expanding : ExpandState k m ask (done_in rows) waits x here.charge
-  pub books : Bookkeeping k m ask rows waits
+pub record TurnState {C : Type 0} (P : Problem C) (rows : List (Cell C)) (waits : ℕ → Option C) (x : ℕ) (here : Reached C) : Type 0 where
+  pub expanding : ExpandState P (done_in rows) waits x here.charge
+  pub books : Bookkeeping P rows waits
   pub row : slice_get rows x ≡ Some (Settled here)
 
 -- what an offer leaves, to let the cell `at` wait as reached by `new`: it is written there, over a row that is not
@@ -106,16 +106,16 @@ pub record OfferOutcome {C : Type 0} (k : Kind C) (rows rows' : List (Cell C)) (
   pub change : (rows' ≡ rows) ⊎ ((rows' ≡ slice_set rows at (Waiting new)) × (done_in rows at ≡ None))
 
 -- the rows and the queue have room for every cell of the request
-pub record RoomSuffices {C : Type 0} (m : SiteMeaning C) (ask : Request) (rows many : ℕ) : Type 0 where
-  pub bound : ask.bound ≤ 1000
-  pub fits : rows < 2 ^ 64
-  pub rows_suffice : m.places * (ask.bound + 1) ≤ rows
-  pub queue_suffices : m.places * (ask.bound + 1) ≤ many
+pub record RoomSuffices {C : Type 0} (P : Problem C) (cells queue : ℕ) : Type 0 where
+  pub bound : P.request.bound ≤ MOST_BOUND
+  pub fits : cells < 2 ^ 64
+  pub cells_suffice : cell_count P ≤ cells
+  pub queue_suffices : cell_count P ≤ queue
 
 -- whether the charge c is to be written over what is known of a cell
 abbrev pub improves : {C : Type 0} → Kind C → Cell C → C → Bool
 improves k Unseen c = true
-improves k (Waiting r) c = not (k.within r.charge c)
+improves k (Waiting r) c = not (k.no_more r.charge c)
 improves k (Settled r) c = false
 
 -- the cell `at`, which was reached as `here` tells, is settled so
@@ -124,24 +124,24 @@ pub record SettleOutcome {C : Type 0} (rows rows' : List (Cell C)) (at : ℕ) (h
   pub written : rows' ≡ slice_set rows at (Settled here)
 
 -- the cell x of the end was taken: no lawful run has a lower total than its charge, and the rows tell how it was reached
-pub record EndTaken {C : Type 0} (k : Kind C) (m : SiteMeaning C) (ask : Request) (rows : List (Cell C)) (x : ℕ) : Type 0 where
+pub record EndTaken {C : Type 0} (P : Problem C) (rows : List (Cell C)) (x : ℕ) : Type 0 where
   pub last : Reached C
   pub row : reached_in rows x ≡ Some last
-  pub end : place_of ask x ≡ ask.end
-  pub lowest : IsLowest k m ask last.charge
-  pub linked : (y : ℕ) (r : Reached C) → reached_in rows y ≡ Some r → IsLinked k m ask rows y r
+  pub end : place_of P x ≡ P.request.end
+  pub lowest : IsLowest P last.charge
+  pub linked : (y : ℕ) (r : Reached C) → reached_in rows y ≡ Some r → IsLinked P rows y r
   pub few : last.steps < length rows
 
 -- the steps `rest` lead on lawfully from the cell x, which was reached as r tells, to the end, where the total is sum; they leave no cell
 -- twice, and no cell that has fewer steps than r
-pub record Trail {C : Type 0} (k : Kind C) (m : SiteMeaning C) (ask : Request) (rows : List (Cell C)) (x : ℕ) (r : Reached C) (rest : List Step) (sum : C) : Type 0 where
-  pub lawful : IsLawful m ask (place_of ask x) (loss_of ask x) rest
-  pub comes_to : total_from k m r.charge rest ≡ sum
-  pub avoids : (y : ℕ) (q : Reached C) → reached_in rows y ≡ Some q → q.steps < r.steps → IsAvoided m (place_of ask y) (loss_of ask y) (place_of ask x) (loss_of ask x) rest
-  pub once : NoneTwice m (place_of ask x) (loss_of ask x) rest
+pub record Trail {C : Type 0} (P : Problem C) (rows : List (Cell C)) (x : ℕ) (r : Reached C) (rest : List Step) (sum : C) : Type 0 where
+  pub lawful : IsLawful P (place_of P x) (loss_of P x) rest
+  pub comes_to : total_from P r.charge rest ≡ sum
+  pub avoids : (y : ℕ) (q : Reached C) → reached_in rows y ≡ Some q → q.steps < r.steps → IsAvoided P (place_of P y) (loss_of P y) (place_of P x) (loss_of P x) rest
+  pub once : NoneTwice P (place_of P x) (loss_of P x) rest
 
 -- a lawful run with its total, which leaves no place twice with the same loss
-pub record WholeRun {C : Type 0} (k : Kind C) (m : SiteMeaning C) (ask : Request) (run : List Step) (sum : C) : Type 0 where
-  pub lawful : IsRun m ask run
-  pub comes_to : sum ≡ total k m run
-  pub once : NoneTwice m ask.start 0 run
+pub record WholeRun {C : Type 0} (P : Problem C) (run : List Step) (sum : C) : Type 0 where
+  pub lawful : IsRun P run
+  pub comes_to : sum ≡ total P run
+  pub once : NoneTwice P.request.start 0 run

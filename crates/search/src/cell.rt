@@ -3,14 +3,14 @@ ghost use Rattle.search.specs.Columns.{blank_row, reached_as};
 
 use subject::run::Step;
 
-// The last step over which a cell was reached, and the cell that it was taken from.
+/// The last step over which a cell was reached, and the cell that it was taken from.
 #[derive(Clone, Copy)]
 pub struct Link {
     pub from: usize,
     pub step: Step,
 }
 
-// How a cell was reached: with the lowest charge found for it, over which link (the start's cell has none), and in how
+/// How a cell was reached: with the lowest charge found for it, over which link (the start's cell has none), and in how
 // many steps from the start.
 #[derive(Clone, Copy)]
 pub struct Reached<C> {
@@ -36,7 +36,7 @@ pub enum Cell<C> {
 // leaves the place. Of the way with that number it holds `next`, the next smaller way that leaves the same place.
 // (The lists of ways are linked by number inside the rows, since the lent rows are all the memory that a plan has.)
 #[derive(Clone, Copy)]
-pub struct Row<C> {
+pub struct CellRow<C> {
     pub cell: Cell<C>,
     pub hint: Option<usize>,
     pub head: Option<usize>,
@@ -55,12 +55,12 @@ impl<C: Copy> Cell<C> {
     }
 }
 
-impl<C> Row<C> {
+impl<C> CellRow<C> {
     // A row that tells nothing: no cell was reached, and no way is in the index.
-    pub fn blank() -> Row<C>
+    pub fn blank() -> CellRow<C>
         ensures { result ≡ blank_row }
     {
-        Row {
+        CellRow {
             cell: Cell::Unseen,
             hint: None,
             head: None,

@@ -5,4 +5,5 @@
 pub mod cell;
 pub mod check;
 pub mod memory;
+pub mod owned;
 pub mod step;

@@ -1,166 +1,97 @@
-// Rows of working memory in vectors, for programs that plan: what a plan is lent comes out of them.
-ghost use Rattle.std.specs.Prelude.{◌≡◌, ℕ, length, vec_len, replicate, IfOk, None};
-ghost use Rattle.tree_queue.specs.Order.{ranked};
-ghost use Rattle.tree_queue.specs.Queues.{row_count, what_waits, IsInRowOrder};
-ghost use Rattle.search.specs.Fillings.{Holds, as_many, blank_filling, used_filling};
+//! Working memory in vectors, for programs that plan.
+ghost use Rattle.std.specs.Prelude.{◌≡◌, IfOk, replicate};
+ghost use Rattle.search.specs.Owned.{Holds, blank_filling};
 
-use subject::charge::Charge;
-use crate::cell::{Cell, Link, Reached, Row};
+use crate::cell::CellRow;
 use crate::memory::Memory;
-use subject::run::Step;
-use tree_queue::layout::Layout;
-use tree_queue::queue::TreeQueue;
-use tree_queue::row::QueueRow;
 use std::alloc::{AllocError, Global};
+use subject::run::Step;
 
-// How many rows there are of each sort.
-#[derive(Clone, Copy)]
-pub struct Counts {
-    pub cells: usize,
-    pub slots: usize,
-    pub steps: usize,
-}
-
-impl Counts {
-    // As many rows of each sort.
-    pub fn each(many: usize) -> Counts
-        ensures { result ≡ as_many many }
-    {
-        Counts {
-            cells: many,
-            slots: many,
-            steps: many,
-        }
-    }
-}
-
-// What each row holds before a plan uses it.
+/// What each row holds before a plan uses it.
 #[derive(Clone, Copy)]
 pub struct Filling<C> {
-    pub cell: Row<C>,
-    pub slot: QueueRow<C>,
+    pub cell: CellRow<C>,
     pub step: Step,
 }
 
-impl<C: Charge> Filling<C> {
-    // Rows that tell nothing.
+impl<C> Filling<C> {
+    /// Rows that tell nothing.
     pub fn blank() -> Filling<C>
-        ensures { result ≡ blank_filling C.Charge.free }
+        ensures { result ≡ blank_filling }
     {
         Filling {
-            cell: Row::blank(),
-            slot: QueueRow {
-                charge: C::nothing(),
-                cell: 0,
-                position: 0,
-            },
+            cell: CellRow::blank(),
             step: Step {
                 way: 0,
                 mark: false,
             },
         }
     }
-
-    // Rows as a plan might have left them, to show that the next one reads nothing of it.
-    pub fn used() -> Filling<C>
-        ensures { result ≡ used_filling C.Charge.free }
-    {
-        let charge = C::nothing();
-        Filling {
-            cell: Row {
-                cell: Cell::Settled(Reached {
-                    charge,
-                    link: Some(Link {
-                        from: 3,
-                        step: Step { way: 7, mark: true },
-                    }),
-                    steps: 5,
-                }),
-                hint: Some(9),
-                head: Some(1),
-                next: Some(0),
-            },
-            slot: QueueRow {
-                charge,
-                cell: 7,
-                position: 3,
-            },
-            step: Step { way: 9, mark: true },
-        }
-    }
 }
 
-// Cell rows, queue rows and run rows.
+/// Cell rows and run rows, which are lent to a plan together with a queue.
 #[derive(Drop)]
 pub struct OwnedRows<C> {
-    pub cells: Vec<Row<C>>,
-    pub slots: Vec<QueueRow<C>>,
+    pub cells: Vec<CellRow<C>>,
     pub run: Vec<Step>,
 }
 
-// So many rows that all hold the same. (They are entered one by one: of a macro's copies of a row with a charge it is not known that
-// they are the row, since a copy of the macro is a clone.)
-fn alike<R: Copy>(heap: Global, row: R, many: usize) -> Result<Vec<R>, AllocError>
-    ensures { IfOk result (λ v. v.items ≡ replicate many row) }
-{
-    let mut rows = Vec::with_capacity(heap, many)?;
-    for _ in 0..many {
-        rows.push(row)?;
-    }
-    Ok(rows)
-}
-
-impl<C: Charge> OwnedRows<C> {
-    // So many rows of each sort, which hold the filling.
+impl<C: Copy> OwnedRows<C> {
+    /// So many rows of each sort, which hold the filling.
     pub fn filled(
-        heap: Global,
-        counts: Counts,
+        alloc: Global,
+        count: usize,
         filling: Filling<C>,
     ) -> Result<OwnedRows<C>, AllocError>
-        ensures { IfOk result (λ r. Holds counts filling r) }
+        ensures { IfOk result (λ r. Holds count filling r) }
     {
-        let cells = alike(heap, filling.cell, counts.cells)?;
-        let slots = alike(heap, filling.slot, counts.slots)?;
-        let run = alike(heap, filling.step, counts.steps)?;
-        Ok(OwnedRows { cells, slots, run })
+        let cells = alike(alloc, filling.cell, count)?;
+        let run = alike(alloc, filling.step, count)?;
+        Ok(OwnedRows { cells, run })
     }
 
-    // As many rows of each sort, which tell nothing.
-    pub fn blank(heap: Global, many: usize) -> Result<OwnedRows<C>, AllocError>
-        ensures { IfOk result (λ r. Holds (as_many many) (blank_filling C.Charge.free) r) }
+    /// So many rows of each sort, which tell nothing.
+    pub fn blank(alloc: Global, count: usize) -> Result<OwnedRows<C>, AllocError>
+        ensures { IfOk result (λ r. Holds count blank_filling r) }
     {
-        OwnedRows::filled(heap, Counts::each(many), Filling::blank())
+        OwnedRows::filled(alloc, count, Filling::blank())
     }
-}
 
-impl<C: Charge> OwnedRows<C> {
-    // All rows, lent to a plan, with a queue of some layout in which no cell waits.
-    pub fn lend<L: Layout>(&mut self) -> Memory<'_, C, TreeQueue<'_, C, L>>
-        ensures ordered { IsInRowOrder L.Layout.up (ranked L.Layout.turned C.Charge.within) result.queue }
-        ensures empty { (k : ℕ) → what_waits result.queue k ≡ None }
-        ensures cells { length result.cells.now ≡ vec_len self.old.cells }
-        ensures queue_rows { row_count result.queue ≡ vec_len self.old.slots }
-        ensures run { length result.run.now ≡ vec_len self.old.run }
+    /// All rows, lent to a plan with a queue.
+    pub fn lend<Q>(&mut self, queue: Q) -> Memory<'_, C, Q>
+        ensures cells { result.cells.now ≡ self.old.cells.items }
+        ensures queue { result.queue ≡ queue }
+        ensures run { result.run.now ≡ self.old.run.items }
     {
         Memory {
             cells: &mut self.cells,
-            queue: TreeQueue::over(&mut self.slots),
+            queue,
             run: &mut self.run,
         }
     }
 }
 
+/// So many rows that are all the same. They are pushed one by one, since the clones that `vec!` makes are not known to be the row.
+pub fn alike<R: Copy>(alloc: Global, row: R, count: usize) -> Result<Vec<R>, AllocError>
+    ensures { IfOk result (λ v. v.items ≡ replicate count row) }
+{
+    let mut rows = Vec::with_capacity(alloc, count)?;
+    for _ in 0..count {
+        rows.push(row)?;
+    }
+    Ok(rows)
+}
+
 #[cfg(test)]
 mod tests {
     use super::*;
-    use subject::money::Money;
     use std::test::Fail;
+    use subject::money::Money;
 
     #[test]
     fn there_is_memory(rt: HostRuntime) -> Result<(), Fail> {
         let rows: OwnedRows<Money> = OwnedRows::blank(rt.alloc(), 144)?;
         assert_eq!(rt; rows.cells.len(), 144);
-        assert_eq!(rt; rows.slots.len(), 144);
         assert_eq!(rt; rows.run.len(), 144);
         Ok(())
     }

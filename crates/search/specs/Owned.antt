@@ -1,0 +1,14 @@
+-- What owned rows hold. Stands on the structs of the rows.
+use Rattle.std.specs.Prelude.{◌≡◌, ℕ, false, replicate}
+use Rattle.search.specs.Columns.{blank_row}
+use Rattle.search.specs.declared.owned.Filling.{Filling}
+use Rattle.search.specs.declared.owned.OwnedRows.{OwnedRows}
+
+-- so many rows of each sort, which hold the filling and nothing else
+pub record Holds {C : Type 0} (count : ℕ) (filling : Filling C) (rows : OwnedRows C) : Type 0 where
+  pub cells : rows.cells.items ≡ replicate count filling.cell
+  pub run : rows.run.items ≡ replicate count filling.step
+
+-- rows that tell nothing
+abbrev pub blank_filling : {C : Type 0} → Filling C
+blank_filling = record { cell = blank_row; step = record { way = 0; mark = false } }
