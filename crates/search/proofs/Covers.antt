@@ -6,17 +6,20 @@ use Rattle.std.proofs.Common.{◌≡◌, ℕ, ◌+◌, ◌<◌, ◌≤◌, Bool,
 use Rattle.std.proofs.lemmas.Bool.{cases_Bool, cases_eq, cases_lt}
 use Rattle.subject.specs.declared.way.Way.{Way}
 use Rattle.subject.specs.declared.run.Step.{Step}
-use Rattle.subject.specs.declared.run.Request.{Request}
-use Rattle.subject.specs.Sites.{SiteMeaning, IsBounded}
-use Rattle.subject.specs.Charges.{Kind}
+use Rattle.subject.specs.Sites.{IsBounded}
 use Rattle.subject.specs.Runs.{IsStepOver, loss_after, after_way, with_repeater, IsLawful, total_from, IsRun, IsLowest}
 use Rattle.subject.specs.Queues.{IsPut, IsTaken}
 use Rattle.search.specs.Cells.{place_of, loss_of}
-use Rattle.search.specs.Search.{Laws, IsCovered, IsOffered, SearchState, ExpandState, EnterOutcome, IsDominated}
+use Rattle.subject.specs.Charges.{Laws, Kind}
+use Rattle.search.specs.Search.{IsCovered, IsOffered, SearchState, ExpandState, EnterOutcome, IsDominated}
+use Rattle.subject.specs.Problems.{Problem}
+
+pub no_more-self : {C : Type 0} (k : Kind C) → Laws k → (a : C) → k.no_more a a ≡ true
+no_more-self k laws a = ⊎_elim (λ e. e) (λ e. laws.total a a e) (cases_Bool (k.no_more a a))
 
 module _ {C : Type 0} (P : Problem C) (laws : Laws P.kind) where
-  pub same : (a : C) → P.kind.no_more a a ≡ true
-  same a = ⊎_elim (λ e. e) (λ e. laws.total a a e) (cases_Bool (P.kind.no_more a a))
+  same : (a : C) → P.kind.no_more a a ≡ true
+  same a = no_more-self P.kind laws a
 
   repeater_rises : (sum : C) (o : Option C) → P.kind.no_more sum (with_repeater P sum o) ≡ true
   repeater_rises sum None = same sum

@@ -6,22 +6,23 @@ use Rattle.std.proofs.lemmas.Bool.{cases_eq, not-true, not-false}
 use Rattle.std.proofs.lemmas.Grind.{common_steps}
 use Rattle.std.proofs.lemmas.List.{get_or-map}
 use Rattle.std.proofs.lemmas.Option.{gets}
-use Rattle.subject.specs.declared.run.Request.{Request}
 use Rattle.subject.specs.Sites.{SiteMeaning}
-use Rattle.subject.specs.Charges.{Kind}
+use Rattle.subject.specs.Charges.{Kind, Laws}
 use Rattle.subject.specs.Queues.{IsPut}
-use Rattle.search.specs.Search.{Laws}
 use Rattle.search.specs.Rows.{settled_as, waits_as, settled_row, waits_row, done_in, QueueAgrees, OfferOutcome, improves, RoomSuffices}
+use Rattle.subject.specs.declared.queue.PriorityQueue.{Ghosts as QueueGhosts}
 use Rattle.search.specs.Columns.{SameIndex, cells_of, heads_of, nexts_of, blank_row}
 use Rattle.std.specs.Borrow.{GName}
-use Rattle.search.specs.Lends.{SameLenders}
+use Rattle.search.specs.Memories.{SameLenders}
 use Rattle.search.specs.declared.memory.Memory.{Memory}
 use Rattle.search.specs.Index.{IsIndexed}
 use Rattle.search.specs.declared.cell.CellRow.{CellRow}
 use Rattle.search.specs.declared.cell.Cell.{Cell}
 use Rattle.search.specs.declared.cell.Cell.TheVariants.{Unseen, Waiting, Settled}
 use Rattle.search.specs.declared.cell.Reached.{Reached}
-use Rattle.search.proofs.Covers.{same}
+use Rattle.search.proofs.Covers.{no_more-self}
+use Rattle.subject.specs.Problems.{Problem}
+use Rattle.search.specs.Cells.{cell_count}
 
 pub nth_set_other : {X : Type 0} (xs : List X) (i k : ℕ) (a : X) → k ≢ i → slice_get (set xs i a) k ≡ slice_get xs k
 nth_set_other xs i k a ne = grind (arith, common_steps, gets)
@@ -49,7 +50,7 @@ module _ {C : Type 0} (k : Kind C) (laws : Laws k) (rows : List (Cell C)) (waits
   offered_over h put = record {
     entered = record {
       charge = new.charge;
-      low = same k laws new.charge;
+      low = no_more-self k laws new.charge;
       held = inr put.here;
       from = λ e w. inl (let p = put.here in cc);
       better = λ e w. (new.charge, put.here, not_less old e h (sym (ap waits_row row) ∙ sym (agree at) ∙ w));
@@ -77,7 +78,7 @@ module _ {C : Type 0} (k : Kind C) (laws : Laws k) (rows : List (Cell C)) (waits
           low = p.1;
           held = elim p.2 [ inl a ↦ inl (ap settled_row row ∙ a) | inr a ↦ inr (agree at ∙ ap waits_row row ∙ a) ];
           from = λ e w. inr w;
-          better = λ e w. (e, w, same k laws e);
+          better = λ e w. (e, w, no_more-self k laws e);
           others = λ z ne. refl;
         };
         agree = agree;

@@ -1,18 +1,16 @@
 -- The run that the links of the rows tell. Going back over a link puts one step onto the front of the rest, which is how a
 -- lawful run and its total recurse; the number of steps falls with every link, so no cell comes twice.
 use Rattle.std.proofs.Common.{◌≡◌, ℕ, zero, suc, ◌+◌, ◌*◌, ◌/◌, ◌%◌, ◌<◌, ◌≤◌, Bool, true, false, List, [], ◌∷◌, length, take, drop, set, Some, sym, refl, ap, ◌∙◌, subst, inl, inr, div-le_self, arith}
-use lib.Arith.{digits_div, digits_mod}
 use Rattle.std.proofs.lemmas.Nat.{div-add-mod'}
 use Rattle.subject.specs.declared.run.Step.{Step}
-use Rattle.subject.specs.declared.run.Request.{Request}
-use Rattle.subject.specs.Sites.{SiteMeaning}
-use Rattle.subject.specs.Charges.{Kind}
 use Rattle.subject.specs.Runs.{IsLawful, total_from, after_way, loss_after, IsAvoided, NoneTwice, place_behind, loss_behind}
 use Rattle.search.specs.Cells.{place_of, loss_of}
 use Rattle.search.specs.Rows.{IsFirst, IsNext, IsLinked, Trail, WholeRun, reached_row, reached_in}
 use Rattle.search.specs.declared.cell.Cell.{Cell}
 use Rattle.search.specs.declared.cell.Reached.{Reached}
 use Rattle.search.proofs.Turns.{some_same}
+use Rattle.subject.specs.Problems.{Problem}
+use lib.Arith.{digits_div, digits_mod}
 
 -- one place with one loss is one cell
 pub one_cell : {C : Type 0} (P : Problem C) (x y : ℕ) → place_of P x ≡ place_of P y → loss_of P x ≡ loss_of P y → x ≡ y

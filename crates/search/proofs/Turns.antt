@@ -2,15 +2,12 @@
 -- and the links and step counts in the rows. Links survive since they lead to settled rows, which are never written again;
 -- and a waiting row is one that is not settled yet, so the settled ones are fewer than all.
 use Rattle.std.proofs.Common.{◌≡◌, ℕ, zero, suc, ◌+◌, ◌<◌, ◌≤◌, true, ◌≢◌, ◌⊎◌, List, [], ◌∷◌, length, set, Some, None, Option, sym, refl, ap, ◌∙◌, subst, inl, inr, arith}
-use mathlib.Core.Path.{fun_ext}
 use Rattle.std.specs.List.{slice_get}
 use Rattle.std.proofs.lemmas.Bool.{cases_eq}
-use Rattle.subject.specs.declared.run.Request.{Request}
-use Rattle.subject.specs.Sites.{SiteMeaning}
-use Rattle.subject.specs.Charges.{Kind}
 use Rattle.subject.specs.Queues.{IsPut, IsTaken}
 use Rattle.search.specs.Cells.{place_of, loss_of}
-use Rattle.search.specs.Search.{Laws, ExpandState, SearchState, IsCovered, CoverStays}
+use Rattle.subject.specs.Charges.{Laws}
+use Rattle.search.specs.Search.{ExpandState, SearchState, IsCovered, CoverStays}
 use Rattle.search.specs.Rows.{settled_as, waits_as, settled_row, waits_row, reached_row, reached_in, done_in, one_if, settled_count, IsNext, IsLinked, Bookkeeping, TurnState, OfferOutcome, SettleOutcome, EndTaken}
 use Rattle.search.specs.Columns.{reached_as}
 use Rattle.search.specs.declared.cell.Cell.{Cell}
@@ -18,6 +15,8 @@ use Rattle.search.specs.declared.cell.Cell.TheVariants.{Unseen, Waiting, Settled
 use Rattle.search.specs.declared.cell.Reached.{Reached}
 use Rattle.search.proofs.Covers.{offer_keeps, offer_covers, offer_covered, take_keeps, lowest, start_holds}
 use Rattle.search.proofs.Tables.{nth_set_same, nth_set_other}
+use Rattle.subject.specs.Problems.{Problem}
+use mathlib.Core.Path.{fun_ext}
 
 pub some_same : {X : Type 0} {a b : X} → Some a ≡ Some b → a ≡ b
 some_same e = cc

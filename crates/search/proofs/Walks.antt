@@ -3,13 +3,13 @@
 use Rattle.std.proofs.Common.{◌≡◌, ℕ, ◌+◌, ◌<◌, ◌≤◌, List, length, get_or, set, Some, None, Option, sym, ap, ◌∙◌, subst, inl, inr, arith, get_or-set_other, get_or-set_same}
 use Rattle.std.proofs.lemmas.Bool.{cases_eq, cases_lt}
 use Rattle.subject.specs.declared.way.Way.{Way}
-use Rattle.subject.specs.declared.run.Request.{Request}
 use Rattle.subject.specs.Sites.{SiteMeaning}
-use Rattle.subject.specs.Charges.{Kind}
 use Rattle.search.specs.Cells.{place_of}
-use Rattle.search.specs.Search.{Laws, IsOffered, CoverStays}
+use Rattle.subject.specs.Charges.{Laws}
+use Rattle.search.specs.Search.{IsOffered, CoverStays}
 use Rattle.search.specs.Index.{IsWayFrom, IsLargestOrNone, IsIndexed}
 use Rattle.search.proofs.Turns.{some_same, none_some}
+use Rattle.subject.specs.Problems.{Problem}
 
 -- how many ways are not yet passed where a walk stands at a way, or at none
 abbrev pub left_of : Option ℕ → ℕ

@@ -5,16 +5,16 @@ use Rattle.std.specs.List.{slice_get}
 use Rattle.subject.specs.Charges.{Kind}
 use Rattle.subject.specs.declared.way.Way.{Way}
 use Rattle.subject.specs.declared.run.Step.{Step}
-use Rattle.subject.specs.declared.run.Request.{Request}
-use Rattle.subject.specs.Sites.{SiteMeaning}
 use Rattle.subject.specs.Runs.{IsStepOver, loss_after, after_way, IsLowest, IsLawful, total_from, IsAvoided, NoneTwice, IsRun, total}
-use Rattle.search.specs.Cells.{place_of, loss_of}
+use Rattle.search.specs.Cells.{place_of, loss_of, cell_count}
 use Rattle.search.specs.Search.{ExpandState, EnterOutcome}
 use Rattle.search.specs.Columns.{reached_as}
 use Rattle.search.specs.declared.cell.Cell.{Cell}
 use Rattle.search.specs.declared.cell.Cell.TheVariants.{Unseen, Waiting, Settled}
 use Rattle.search.specs.declared.cell.Link.{Link}
 use Rattle.search.specs.declared.cell.Reached.{Reached}
+use Rattle.subject.specs.declared.run.TheConstants.{MOST_BOUND}
+use Rattle.subject.specs.Problems.{Problem}
 
 abbrev pub settled_as : {C : Type 0} → Cell C → Option C
 settled_as Unseen = None
@@ -144,4 +144,4 @@ pub record Trail {C : Type 0} (P : Problem C) (rows : List (Cell C)) (x : ℕ) (
 pub record WholeRun {C : Type 0} (P : Problem C) (run : List Step) (sum : C) : Type 0 where
   pub lawful : IsRun P run
   pub comes_to : sum ≡ total P run
-  pub once : NoneTwice P.request.start 0 run
+  pub once : NoneTwice P P.request.start 0 run

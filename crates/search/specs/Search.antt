@@ -4,10 +4,9 @@ use Rattle.std.specs.Prelude.{◌≡◌, ℕ, ◌+◌, ◌≤◌, Bool, true, fa
 use Rattle.subject.specs.Charges.{Kind}
 use Rattle.subject.specs.declared.way.Way.{Way}
 use Rattle.subject.specs.declared.run.Step.{Step}
-use Rattle.subject.specs.declared.run.Request.{Request}
-use Rattle.subject.specs.Sites.{SiteMeaning}
 use Rattle.subject.specs.Runs.{IsStepOver, loss_after, after_way}
 use Rattle.search.specs.Cells.{place_of, loss_of}
+use Rattle.subject.specs.Problems.{Problem}
 
 -- to stand at the place p with the loss l and the total sum is covered: some cell of that place with no more loss, settled
 -- or waiting, has a charge that is no more than sum
