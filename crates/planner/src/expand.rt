@@ -1,40 +1,39 @@
-ghost use Rattle.std.specs.Prelude.{◌+◌, ◌<◌, length, Some};
-ghost use Rattle.subject.specs.Runs.{after_way, loss_after, IsStepOver};
-ghost use Rattle.subject.specs.Charges.{kind_of};
+ghost use Rattle.std.specs.Prelude.{◌<◌, length};
+ghost use Rattle.subject.specs.Runs.{IsStepOver};
 ghost use Rattle.search.specs.Cells.{place_of, loss_of};
-ghost use Rattle.search.specs.Search.{IsCovered, IsOffered};
-ghost use Rattle.search.specs.Rows.{done_in};
-ghost use Rattle.search.specs.Columns.{cells_of};
-ghost use Rattle.planner.specs.Work.{Ready, StillReady, StillAtTurn, AtTurn, AtRest};
+ghost use Rattle.planner.specs.Workspaces.{problem, IsReady, ReadyStays, IsTurn, TurnStays, RestState, CoversStep, OffersWay};
 
-use crate::asked::Asked;
-use crate::work::{Settled, Work};
-use subject::queue::PriorityQueue;
+use crate::query::Query;
+use crate::workspace::{Settled, Workspace};
 use search::cell::{Link, Reached};
-use search::step::{charge_after, loss_after, markable, within_bound};
+use search::step::{charge_after, is_markable, is_within_bound, loss_after};
+use subject::queue::PriorityQueue;
 use subject::run::Step;
 use subject::site::Site;
 use subject::way::Way;
 
-impl<S: Site> Asked<'_, S> {
+impl<S: Site> Query<'_, S> {
     // Offers the cell to which a lawful step over the way `w` leads from a settled cell.
     fn arrive<Q: PriorityQueue<Charge = S::Charge>>(
         &self,
-        work: &mut Work<'_, '_, S::Charge, Q>,
+        work: &mut Workspace<'_, '_, S::Charge, Q>,
         from: Settled<S::Charge>,
         step: Step,
         w: Way<S::Charge>,
     )
-        requires ready { Ready (S.Site.meaning self.now.site.now) self.now.request Q.PriorityQueue.many Q.PriorityQueue.ordered work.old }
-        requires turn { AtTurn (kind_of S.Charge.Charge) (S.Site.meaning self.now.site.now) self.now.request Q.PriorityQueue.waits work.old from.at from.here }
-        requires goes { IsStepOver (S.Site.meaning self.now.site.now) self.now.request (place_of self.now.request from.at) (loss_of self.now.request from.at) step w }
-        ensures still { StillAtTurn (kind_of S.Charge.Charge) (S.Site.meaning self.now.site.now) self.now.request Q.PriorityQueue.many Q.PriorityQueue.lenders Q.PriorityQueue.ordered Q.PriorityQueue.waits work.old work.new from.at from.here }
-        ensures covered { IsCovered (kind_of S.Charge.Charge) self.now.request (done_in (cells_of work.new.cells.now)) (Q.PriorityQueue.waits work.new.queue.now) w.to (loss_after step.mark (loss_of self.now.request from.at + w.loss)) (after_way (kind_of S.Charge.Charge) (S.Site.meaning self.now.site.now) from.here.charge step.mark (Some w)) }
+        requires ready { IsReady (problem self.now) Q.PriorityQueue work.old }
+        requires turn { IsTurn (problem self.now) Q.PriorityQueue work.old from }
+        requires goes {
+            let P = problem self.now in
+            IsStepOver P (place_of P from.at) (loss_of P from.at) step w
+        }
+        ensures still { TurnStays (problem self.now) Q.PriorityQueue work.old work.new from }
+        ensures covered { CoversStep (problem self.now) Q.PriorityQueue work.new from step w }
     {
         let Settled { at, here } = from;
         let loss = loss_after(step.mark, self.loss_of(at) + w.loss as usize);
         let target = self.cell_of(w.to, loss);
-        let charge = charge_after(self.site, here.charge, step.mark, w);
+        let charge = charge_after(self.site, self.request, here.charge, step.mark, w);
         work.offer(
             target,
             Reached {
@@ -45,23 +44,23 @@ impl<S: Site> Asked<'_, S> {
         );
     }
 
-    // Offers the way `n` from a settled cell: without a mark and, where one may stand, with a mark too.
+    // Offers the way `n` from a settled cell: without a mark and, where one is allowed, with a mark too.
     fn offer_way<Q: PriorityQueue<Charge = S::Charge>>(
         &self,
-        work: &mut Work<'_, '_, S::Charge, Q>,
+        work: &mut Workspace<'_, '_, S::Charge, Q>,
         from: Settled<S::Charge>,
         n: usize,
     )
-        requires ready { Ready (S.Site.meaning self.now.site.now) self.now.request Q.PriorityQueue.many Q.PriorityQueue.ordered work.old }
-        requires turn { AtTurn (kind_of S.Charge.Charge) (S.Site.meaning self.now.site.now) self.now.request Q.PriorityQueue.waits work.old from.at from.here }
-        ensures still { StillAtTurn (kind_of S.Charge.Charge) (S.Site.meaning self.now.site.now) self.now.request Q.PriorityQueue.many Q.PriorityQueue.lenders Q.PriorityQueue.ordered Q.PriorityQueue.waits work.old work.new from.at from.here }
-        ensures offered { IsOffered (kind_of S.Charge.Charge) (S.Site.meaning self.now.site.now) self.now.request (done_in (cells_of work.new.cells.now)) (Q.PriorityQueue.waits work.new.queue.now) from.at from.here.charge n }
+        requires ready { IsReady (problem self.now) Q.PriorityQueue work.old }
+        requires turn { IsTurn (problem self.now) Q.PriorityQueue work.old from }
+        ensures still { TurnStays (problem self.now) Q.PriorityQueue work.old work.new from }
+        ensures offered { OffersWay (problem self.now) Q.PriorityQueue work.new from n }
     {
         if let Some(w) = self.site.way(n) {
             if w.from != self.place_of(from.at) {
                 return;
             }
-            if !within_bound(self.request, self.loss_of(from.at), w.loss) {
+            if !is_within_bound(self.request, self.loss_of(from.at), w.loss) {
                 return;
             }
             self.arrive(
@@ -73,25 +72,24 @@ impl<S: Site> Asked<'_, S> {
                 },
                 w,
             );
-            if markable(self.site, self.request, w.to) {
+            if is_markable(self.site, self.request, w.to) {
                 self.arrive(work, from, Step { way: n, mark: true }, w);
             }
         }
     }
 
-    // Offers every way out of a settled cell: first those past the index, one by one, then those that the index has.
-    // (The first by number, since a site tells its ways by number and has no list of them.)
+    /// Offers every way out of a settled cell: first those past the index, one by one, then those that the index has.
     #[tactic(auto, using(search::proofs::Trails::place_below))]
     pub fn expand<Q: PriorityQueue<Charge = S::Charge>>(
         &self,
-        work: &mut Work<'_, '_, S::Charge, Q>,
+        work: &mut Workspace<'_, '_, S::Charge, Q>,
         from: Settled<S::Charge>,
     )
-        requires ready { Ready (S.Site.meaning self.now.site.now) self.now.request Q.PriorityQueue.many Q.PriorityQueue.ordered work.old }
+        requires ready { IsReady (problem self.now) Q.PriorityQueue work.old }
         requires inside { from.at < length work.old.cells.now }
-        requires turn { AtTurn (kind_of S.Charge.Charge) (S.Site.meaning self.now.site.now) self.now.request Q.PriorityQueue.waits work.old from.at from.here }
-        ensures still { StillReady (S.Site.meaning self.now.site.now) self.now.request Q.PriorityQueue.many Q.PriorityQueue.lenders Q.PriorityQueue.ordered work.old work.new }
-        ensures rest { AtRest (kind_of S.Charge.Charge) (S.Site.meaning self.now.site.now) self.now.request Q.PriorityQueue.waits work.new }
+        requires turn { IsTurn (problem self.now) Q.PriorityQueue work.old from }
+        ensures still { ReadyStays (problem self.now) Q.PriorityQueue work.old work.new }
+        ensures rest { RestState (problem self.now) Q.PriorityQueue work.new }
     {
         let ways = self.site.ways();
         let limit = ways.min(work.cells.len());

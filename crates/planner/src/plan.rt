@@ -1,59 +1,110 @@
-ghost use Rattle.std.specs.Prelude.{◌≡◌, ◌<◌, ◌≤◌, length, MatchResult};
+ghost use Rattle.std.specs.Prelude.{◌≡◌, ◌<◌, ◌≤◌, length, IfOk, IfErr};
 ghost use Rattle.subject.specs.declared.refusal.Refusal.TheVariants.{NoRun};
-ghost use Rattle.subject.specs.Charges.{kind_of};
+ghost use Rattle.subject.specs.Problems.{problem_of};
+ghost use Rattle.subject.specs.Runs.{NoLawfulRun};
 ghost use Rattle.search.specs.Rows.{RoomSuffices};
-ghost use Rattle.search.specs.Lends.{lent_memory, SameLenders};
-ghost use Rattle.planner.specs.Outcome.{RunHandedOut, NoLawfulRun, PlanOutcome};
-ghost use Rattle.planner.specs.Work.{SameWork};
+ghost use Rattle.search.specs.Memories.{lent_memory, SameLenders};
+ghost use Rattle.planner.specs.Outcome.{OwnedOutcome, PlanOutcome, RunHandedOut};
+ghost use Rattle.planner.specs.Workspaces.{problem, SameWorkspace};
 
-use crate::asked::Asked;
-use crate::planned::Planned;
-use crate::work::Work;
+use crate::query::Query;
+use crate::workspace::Workspace;
+use search::cell::CellRow;
+use search::check::{RowCounts, rows_needed};
+use search::memory::Memory;
+use search::owned::OwnedRows;
 use subject::queue::PriorityQueue;
 use subject::refusal::Refusal;
-use search::check::rows_needed;
-use search::memory::Memory;
 use subject::run::{Request, Step};
 use subject::site::Site;
 
-impl<S: Site> Asked<'_, S> {
+/// What a plan answers: how many steps the run has, and its total.
+#[derive(Clone, Copy, Debug)]
+pub struct Planned<C> {
+    pub steps: usize,
+    pub total: C,
+}
+
+impl<S: Site> Query<'_, S> {
     // Searches for a least run where there is room for every cell, and writes it.
     fn search<Q: PriorityQueue<Charge = S::Charge>>(
         &self,
-        work: &mut Work<'_, '_, S::Charge, Q>,
+        work: &mut Workspace<'_, '_, S::Charge, Q>,
         run: &mut [Step],
     ) -> Result<Planned<S::Charge>, Refusal>
-        requires room { RoomSuffices (S.Site.meaning self.now.site.now) self.now.request (length work.old.cells.now) (Q.PriorityQueue.many work.old.queue.now) }
-        requires start { self.now.request.start < (S.Site.meaning self.now.site.now).places }
+        requires room {
+            RoomSuffices (problem self.now) (length work.old.cells.now) (Q.PriorityQueue.rows work.old.queue.now)
+        }
+        requires start { self.now.request.start < (problem self.now).site.places }
         requires steps { length work.old.cells.now ≤ length run.old }
-        ensures same { SameWork Q.PriorityQueue.many Q.PriorityQueue.lenders work.old work.new }
-        ensures answer { MatchResult result (λ p. RunHandedOut (kind_of S.Charge.Charge) (S.Site.meaning self.now.site.now) self.now.request run.old run.new p) (λ e. (e ≡ NoRun) × NoLawfulRun (S.Site.meaning self.now.site.now) self.now.request × (run.new ≡ run.old)) }
+        ensures same { SameWorkspace Q.PriorityQueue work.old work.new }
+        ensures ok { IfOk result (λ p. RunHandedOut (problem self.now) run.old run.new p) }
+        ensures err { IfErr result (λ e. (e ≡ NoRun) × NoLawfulRun (problem self.now) × (run.new ≡ run.old)) }
     {
-        self.begin(work);
+        self.start(work);
         let last = self.seek(work).ok_or(Refusal::NoRun)?;
         Ok(self.trace(&*work, last, run))
     }
 }
 
-// Plans a least run for the request. The cell rows and the queue are working memory: whatever they hold is overwritten.
+/// Plans a least run for the request, over slices of cell rows and run rows, into the first run rows.
+///
+/// The cell rows and the queue are working memory: whatever they hold is overwritten. Refused are, in this order, a start or
+/// an end that is no place, a bound of 0 or over 1,000, fewer than places × (bound + 1) rows of a sort; then nothing
+/// changes. A request for which no run is lawful is refused last, and the run rows stay as they were.
+pub fn plan_slices<S: Site, Q: PriorityQueue<Charge = S::Charge>>(
+    site: &S,
+    request: Request,
+    cells: &mut [CellRow<S::Charge>],
+    queue: &mut Q,
+    run: &mut [Step],
+) -> Result<Planned<S::Charge>, Refusal>
+    ensures outcome {
+        PlanOutcome (problem_of S.Site S.Charge.Charge site.now request) Q.PriorityQueue
+            (record { cells = cells.old; queue = queue.old; run = run.old })
+            (record { cells = cells.new; queue = queue.new; run = run.new }) result
+    }
+    ensures lenders { Q.PriorityQueue.lenders queue.new ≡ Q.PriorityQueue.lenders queue.old }
+{
+    let counts = RowCounts {
+        cells: cells.len(),
+        queue: queue.rows(),
+        run: run.len(),
+    };
+    let rows = rows_needed(site, request, counts)?;
+    let query = Query { site, request };
+    let cells = &mut cells[..rows];
+    let mut work = Workspace { cells, queue };
+    query.search(&mut work, run)
+}
+
+/// Plans a least run for the request with what is lent, into the first run rows; refused as `plan_slices` says.
 pub fn plan<S: Site, Q: PriorityQueue<Charge = S::Charge>>(
     site: &S,
     request: Request,
     memory: &mut Memory<'_, S::Charge, Q>,
 ) -> Result<Planned<S::Charge>, Refusal>
-    ensures outcome { PlanOutcome (kind_of S.Charge.Charge) Q.PriorityQueue.many (S.Site.meaning site.now) request (lent_memory memory.old) (lent_memory memory.new) result }
-    ensures same { SameLenders Q.PriorityQueue.lenders memory.old memory.new }
+    ensures outcome {
+        PlanOutcome (problem_of S.Site S.Charge.Charge site.now request) Q.PriorityQueue
+            (lent_memory memory.old) (lent_memory memory.new) result
+    }
+    ensures same { SameLenders Q.PriorityQueue memory.old memory.new }
 {
-    let rows = rows_needed(
-        site,
-        request,
-        memory.cells.len(),
-        memory.queue.rows(),
-        memory.run.len(),
-    )?;
-    let asked = Asked { site, request };
-    let cells = &mut memory.cells[..rows];
-    let queue = &mut memory.queue;
-    let mut work = Work { cells, queue };
-    asked.search(&mut work, memory.run)
+    plan_slices(site, request, memory.cells, &mut memory.queue, memory.run)
+}
+
+/// Plans a least run for the request over rows that the caller owns, with a queue that is handed in, for example
+/// `Heap::over(&mut queue_rows)`; refused as `plan_slices` says.
+pub fn plan_owned<S: Site, Q: PriorityQueue<Charge = S::Charge> + Drop>(
+    site: &S,
+    request: Request,
+    rows: &mut OwnedRows<S::Charge>,
+    mut queue: Q,
+) -> Result<Planned<S::Charge>, Refusal>
+    ensures {
+        OwnedOutcome (problem_of S.Site S.Charge.Charge site.now request) Q.PriorityQueue
+            queue rows.old rows.new result
+    }
+{
+    plan_slices(site, request, &mut rows.cells, &mut queue, &mut rows.run)
 }

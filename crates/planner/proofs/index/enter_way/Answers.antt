@@ -1,13 +1,13 @@
 -- One more way is in the index: a shut one changes nothing, an open one becomes the largest of its place.
 use Rattle.std.proofs.Common.{sym, refl, arith}
-use lib.ListN.{length-map}
 use Rattle.search.specs.Columns.{heads_of, nexts_of}
 use Rattle.search.proofs.Walks.{index_way, index_shut}
+use lib.ListN.{length-map}
 use Rattle.planner.proofs.index.enter_way.Goals as goal
 
 pub put_first-requires : goal.put_first-requires
 put_first-requires g c =
-    let b = g.S.Site.bounded c.args.site.now in
+    let b = g.S.Site.is_bounded c.args.site.now in
     let h = b.from_in c.args.n c.in-Some.w (sym c.in-Some.ensures) in
     record { place = omega (arith, c.requires.places); way = c.requires.inside }
 
@@ -18,7 +18,7 @@ returns-in-Some g c =
     let w = c.in-Some.w in
     let n = c.args.n in
     let rows = c.args.cells.now in
-    let h = (g.S.Site.bounded c.args.site.now).from_in n w e in
+    let h = (g.S.Site.is_bounded c.args.site.now).from_in n w e in
     let lh = length-map rows (λ r. r.head) in
     let ln = length-map rows (λ r. r.next) in
     let ix = index_way m n (heads_of rows) (nexts_of rows) c.requires.indexed w e h (omega (arith, c.requires.places)) (omega (arith, c.requires.inside)) in

@@ -1,8 +1,8 @@
 -- Two writes, each to one field of one row: the next way of `n`, and then the head of `at`.
 use Rattle.std.proofs.Common.{refl, set, Some, None, ap, ◌∙◌}
-use lib.Seq.{map-set, map-set_same}
 use Rattle.search.specs.Columns.{nexts_of}
 use Rattle.search.proofs.Tables.{read_column}
+use lib.Seq.{map-set, map-set_same}
 use Rattle.planner.proofs.index.put_first.Goals as goal
 
 pub returns : goal.returns
