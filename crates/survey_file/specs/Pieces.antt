@@ -10,4 +10,5 @@ put_answer out at piece = cond (nat_le (at + length piece) (length out)) (Ok (at
 
 -- what the bytes are then: those before and behind the piece stay, and all stay where it does not fit
 abbrev pub put_bytes : List ℕ → ℕ → List ℕ → List ℕ
-put_bytes out at piece = cond (nat_le (at + length piece) (length out)) (take at out ++ (piece ++ drop (at + length piece) out)) out
+put_bytes out at piece =
+    cond (nat_le (at + length piece) (length out)) (take at out ++ (piece ++ drop (at + length piece) out)) out

@@ -1,4 +1,4 @@
--- Records of a survey file: what the body of a field says, and where the next field begins. Stands on Fields.
+-- The fields of a survey file by their tags: what the body of a field says, and where the next field begins. Stands on Fields.
 use Rattle.std.specs.Prelude.{ℕ, ◌+◌, cond, List, length, Some, None, Ok, Result, ◌==◌, nat_lt, slice_index}
 use Rattle.subject.specs.declared.refusal.Refusal.TheVariants.{WrongEdition, BytesBehind}
 use Rattle.subject.specs.declared.refusal.Fault.{Fault}
@@ -12,7 +12,8 @@ use Rattle.survey_file.specs.Fields.{fault, two_at, four_at, body_at}
 
 -- two bytes: the edition, which is 1
 abbrev pub edition_at : List ℕ → ℕ → Head → Result ℕ Fault
-edition_at bs at h = then (body_at bs at h 2) (λ next. cond (two_at bs (at + 3) == 1) (Ok next) (fault WrongEdition at))
+edition_at bs at h =
+    then (body_at bs at h 2) (λ next. cond (two_at bs (at + 3) == 1) (Ok next) (fault WrongEdition at))
 
 -- no body is a blank; four bytes are the price of a repeater
 abbrev pub place_at : List ℕ → ℕ → Head → Result (Record Place) Fault
