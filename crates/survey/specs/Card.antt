@@ -6,7 +6,10 @@ use Rattle.survey.specs.declared.card.TheConstants.{MOST_METRES, U_LOSS, S_LOSS,
 
 -- the row of a letter: U (85) is row 0, S (83) row 1, F (70) row 2
 abbrev pub row_of : ℕ → Result ℕ Refusal
-row_of letter = cond (letter == 85) (Ok 0) (cond (letter == 83) (Ok 1) (cond (letter == 70) (Ok 2) (Err WrongLetter)))
+row_of letter =
+    cond (letter == 85) (Ok 0)
+    (cond (letter == 83) (Ok 1)
+    (cond (letter == 70) (Ok 2) (Err WrongLetter)))
 
 -- what the cable of a row loses per 100 metres
 abbrev pub loss_per_100_metres : ℕ → ℕ

@@ -31,7 +31,23 @@ const TWO_PLACES_AND_A_WAY: FileParts = FileParts {
 
 fn file(alloc: Global, parts: FileParts) -> Result<Vec<u8>, AllocError> {
     let [_, high, middle, low] = parts.price.to_be_bytes();
-    let way = [3, 0, 12, 0, 0, 0, 1, 83, 0, 0, parts.metres, 0, high, middle, low];
+    let way = [
+        3,
+        0,
+        12,
+        0,
+        0,
+        0,
+        1,
+        83,
+        0,
+        0,
+        parts.metres,
+        0,
+        high,
+        middle,
+        low,
+    ];
     let mut bytes = Vec::new(alloc);
     bytes.extend_from_slice(&[1, 0, 2, 0, 1])?;
     bytes.extend_from_slice(&[2, 0, 0].repeat(alloc, parts.places)?)?;

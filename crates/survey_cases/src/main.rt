@@ -1,5 +1,5 @@
-//! Surveys on examples: the file of the house on four places, whole, cut and changed; files past each limit; some losses
-//! of the card; and a draft on its way to a site. The figures that are expected are in the file stdout.
+//! Surveys on examples: the file of the house on four places, whole, cut and changed; files past each limit; some
+//! losses of the card; and a draft on its way to a site. The figures that are expected are in the file stdout.
 #![tactic(auto)]
 
 mod files;
@@ -29,8 +29,8 @@ fn fronts(reader: &mut FileReader, draft: &mut Draft) -> usize {
         .count()
 }
 
-// Each byte of the house is changed to each other byte: how many files are refused, how many are read as another survey,
-// whose file is the changed one, and how many are neither.
+// Each byte of the house is changed to each other byte: how many files are refused, how many are read as another
+// survey, whose file is the changed one, and how many are neither.
 fn changes(reader: &mut FileReader, alloc: Global) -> anyhow::Result<(usize, usize, usize)> {
     let mut refused = 0usize;
     let mut other = 0usize;

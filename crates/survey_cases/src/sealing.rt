@@ -1,6 +1,6 @@
-// From a draft to a site: a small house is entered, its draft is sealed, and it is looked at as a site for each charge kind.
-// The folder refused/ has edits of this file that the compiler must refuse: a sealed draft cannot be changed, and an
-// unsealed one is no site.
+// From a draft to a site: a small house is entered, its draft is sealed, and it is looked at as a site for each charge
+// kind. The folder refused/ has edits of this file that the compiler must refuse: a sealed draft cannot be changed, and
+// an unsealed one is no site.
 use anyhow::anyhow;
 use subject::refusal::Refusal;
 use subject::site::Site;
