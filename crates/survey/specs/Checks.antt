@@ -3,6 +3,7 @@ use Rattle.std.specs.Prelude.{ℕ, Bool, true, false, cond, List, [], ◌∷◌,
 use Rattle.subject.specs.declared.refusal.Refusal.{Refusal}
 use Rattle.subject.specs.declared.refusal.Refusal.TheVariants.{WrongEnds, TooDear}
 use Rattle.survey.specs.Card.{loss_of}
+use Rattle.survey.specs.declared.entry.TheConstants.{MOST_CENTS}
 use Rattle.survey.specs.declared.entry.Place.{Place}
 use Rattle.survey.specs.declared.entry.WayEntry.{WayEntry}
 
@@ -11,18 +12,21 @@ abbrev pub then : {X Y E : Type 0} → Result X E → (X → Result Y E) → Res
 then (Ok x) f = f x
 then (Err e) f = Err e
 
--- a price is at most 1,000,000 cents
+-- a price is at most so many cents
 abbrev pub price_check : ℕ → Result (Unit {0}) Refusal
-price_check price = cond (nat_le price 1000000) (Ok tt) (Err TooDear)
+price_check price = cond (nat_le price MOST_CENTS) (Ok tt) (Err TooDear)
 
 -- a blank is no price, and passes
 abbrev pub place_check : Option ℕ → Result (Unit {0}) Refusal
 place_check None = Ok tt
 place_check (Some price) = price_check price
 
--- the ends are two of the n places that are entered
+-- the ends are two of the n places that are entered, and not the same
 abbrev pub ends_check : ℕ → WayEntry → Result (Unit {0}) Refusal
-ends_check n w = cond (nat_lt w.from n) (cond (nat_lt w.to n) (cond (w.from == w.to) (Err WrongEnds) (Ok tt)) (Err WrongEnds)) (Err WrongEnds)
+ends_check n w =
+    cond (nat_lt w.from n)
+    (cond (nat_lt w.to n) (cond (w.from == w.to) (Err WrongEnds) (Ok tt)) (Err WrongEnds))
+    (Err WrongEnds)
 
 -- the ends, the letter, the metres, the price, in this order
 abbrev pub way_check : ℕ → WayEntry → Result (Unit {0}) Refusal

@@ -1,4 +1,4 @@
--- What stands in a draft: its places and its ways, each by its number. Stands on the structs.
+-- What is in a draft: its places and its ways, each by its number. Stands on the structs.
 use Rattle.std.specs.Prelude.{List, [], vec_items}
 use Rattle.survey.specs.declared.entry.Place.{Place}
 use Rattle.survey.specs.declared.entry.WayEntry.{WayEntry}

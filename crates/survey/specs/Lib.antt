@@ -2,6 +2,8 @@ pub mod Card
 pub mod Checks
 pub mod Contents
 pub mod Edits
+pub mod Lending
 pub mod Sealing
 pub mod SurveySite
+pub mod PassedChecks
 pub mod SiteBounds

@@ -1,4 +1,4 @@
--- What stands in a sealed survey. Stands on Contents.
+-- What is in a sealed survey. Stands on Contents.
 use Rattle.survey.specs.declared.sealed.Sealed.{Sealed}
 use Rattle.survey.specs.Contents.{Contents, contents}
 

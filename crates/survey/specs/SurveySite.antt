@@ -7,12 +7,14 @@ use Rattle.subject.specs.declared.money.Money.{Money}
 use Rattle.subject.specs.declared.disturbance.Disturbance.{Disturbance}
 use Rattle.subject.specs.Moneys.{of_cents}
 use Rattle.subject.specs.Grades.{of_grade}
+use Rattle.subject.specs.declared.way.Way.{Way}
+use Rattle.subject.specs.Sites.{SiteMeaning}
 use Rattle.survey.specs.Card.{loss_of}
 use Rattle.survey.specs.declared.entry.Place.{Place}
 use Rattle.survey.specs.declared.entry.WayEntry.{WayEntry}
+use Rattle.survey.specs.declared.view.SurveyView.{SurveyView}
 use Rattle.survey.specs.Contents.{Contents}
-use Rattle.subject.specs.declared.way.Way.{Way}
-use Rattle.subject.specs.Sites.{SiteMeaning}
+use Rattle.survey.specs.Sealing.{sealed_contents}
 
 -- the loss that the card has
 abbrev pub loss_found : Result ℕ Refusal → ℕ
@@ -47,6 +49,10 @@ survey_site wayCharge repeaterCharge c = record {
   repeater = λ p. repeater_of repeaterCharge (slice_get c.places p);
   way = λ n. way_of wayCharge (slice_get c.ways n);
 }
+
+-- the contents of the survey over which a view stands
+abbrev pub view_contents : {K : Type 0} → SurveyView K → Contents
+view_contents v = sealed_contents v.survey.now
 
 -- for money a way charges its price, and a repeater its own
 abbrev pub money_site : Contents → SiteMeaning Money

@@ -1,12 +1,26 @@
 // The loss card: how much signal a cable loses, in tenths of a decibel, by its letter and its metres.
-// U is unscreened cable, S screened, F fibre; they lose 220, 90 and 4 tenths per 100 metres, rounded up to whole tenths.
-ghost use Rattle.std.specs.Prelude.{◌≡◌, ℕ, ◌*◌, ◌<◌, ◌≤◌, IfOk, Ok};
-ghost use Rattle.survey.specs.Card.{row_of, figure, ceiling, Smallest, loss_of};
+ghost use Rattle.std.specs.Prelude.{◌≡◌, ◌*◌, ◌<◌, ◌≤◌, IfOk};
+ghost use Rattle.survey.specs.Card.{row_of, loss_per_100_metres, hundredth, loss_of, IsLossOf};
 
 use subject::refusal::Refusal;
 
-// The rows are U, S and F; the entries of a row are for 0 to 200 metres.
-const CARD: [[u16; 201]; 3] = [
+/// The longest way, in metres.
+pub const MOST_METRES: u16 = 200;
+
+/// What unscreened cable, U, loses per 100 metres, in tenths of a decibel.
+pub const U_LOSS: u16 = 220;
+
+/// What screened cable, S, loses per 100 metres, in tenths of a decibel.
+pub const S_LOSS: u16 = 90;
+
+/// What fibre, F, loses per 100 metres, in tenths of a decibel.
+pub const F_LOSS: u16 = 4;
+
+// Each row has an entry for each number of metres, 0 too.
+const ENTRIES: usize = MOST_METRES as usize + 1;
+
+// The rows are U, S and F.
+const CARD: [[u16; ENTRIES]; 3] = [
     [
         0, 3, 5, 7, 9, 11, 14, 16, 18, 20, 22, 25, 27, 29, 31, 33, 36, 38, 40, 42, 44, 47, 49, 51,
         53, 55, 58, 60, 62, 64, 66, 69, 71, 73, 75, 77, 80, 82, 84, 86, 88, 91, 93, 95, 97, 99,
@@ -44,16 +58,17 @@ const CARD: [[u16; 201]; 3] = [
 ];
 
 // The entry of a row at some metres.
-fn entry(row: usize, metres: usize) -> u16
+fn entry(row: usize, metres: u16) -> u16
     requires row { row < 3 }
-    requires metres { metres < 201 }
-    ensures { result ≡ ceiling (metres * figure row) }
+    requires metres { metres ≤ MOST_METRES }
+    ensures { result ≡ hundredth (metres * loss_per_100_metres row) }
 {
-    CARD[row][metres]
+    CARD[row][metres as usize]
 }
 
-// The row of a cable letter; another letter is refused. (The letter is matched and the answer is a row, as docs/DECISIONS.md tells
-// under Forms: the row is an index into the table, not the code of a kind.)
+/// The row of the loss card for a cable letter: 0 for U, 1 for S, 2 for F.
+///
+/// Refused with 7 where it is another letter.
 pub fn row_of(letter: char) -> Result<usize, Refusal>
     ensures { result ≡ row_of letter }
 {
@@ -65,14 +80,16 @@ pub fn row_of(letter: char) -> Result<usize, Refusal>
     }
 }
 
-// The loss of so many metres of a cable: the entry of the card, or a refusal of the letter, or else of the metres.
+/// The loss of so many metres of a cable, in tenths of a decibel, rounded up.
+///
+/// Refused with 7 where the letter is none of U, S and F, or else with 8 where the metres are over 200.
 pub fn loss(letter: char, metres: u16) -> Result<u16, Refusal>
     ensures value { result ≡ loss_of letter metres }
-    ensures smallest { IfOk result (λ n. (row : ℕ) → row_of letter ≡ Ok row → Smallest (metres * figure row) n) }
+    ensures smallest { IfOk result (IsLossOf letter metres) }
 {
     let row = row_of(letter)?;
-    if metres > 200 {
+    if metres > MOST_METRES {
         return Err(Refusal::TooLong);
     }
-    Ok(entry(row, metres as usize))
+    Ok(entry(row, metres))
 }

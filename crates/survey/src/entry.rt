@@ -1,12 +1,19 @@
-// A place of a survey: what a repeater there costs, in cents. None is a blank: no repeater can stand there. Zero is a
-// repeater for nothing.
+/// The highest price of a way or a repeater, in cents.
+pub const MOST_CENTS: u32 = 1_000_000;
+
+/// A place of a survey.
+///
+/// It has the price of a repeater there, in cents, or a blank: no repeater can be hung there. A price of 0 is a
+/// repeater for nothing.
 #[derive(Clone, Copy, Debug, PartialEq, Eq)]
 pub struct Place {
     pub repeater: Option<u32>,
 }
 
-// A way of a survey, as it was entered: the places that it joins, the letter of its cable, how much the work disturbs
-// the house, its metres, and its price in cents.
+/// A way of a survey, as it was entered.
+///
+/// It has the places that it leads from and to, the letter of its cable, the grade to which the work disturbs the
+/// house, its metres, and its price in cents.
 #[derive(Clone, Copy, Debug, PartialEq, Eq)]
 pub struct WayEntry {
     pub from: u16,

@@ -17,8 +17,8 @@ pub fn field_start(count: usize) -> usize {
         .unwrap_or(0)
 }
 
-// Whether what stands in the draft is written as these 88 bytes.
-pub fn written(draft: Draft, file: &[u8; 88]) -> bool {
+// Whether what is in the draft is written as these 88 bytes.
+pub fn is_written_as(draft: Draft, file: &[u8; 88]) -> bool {
     let mut out = [0u8; 128];
     write(&draft.seal(), &mut out) == Ok(88) && out.starts_with(file)
 }

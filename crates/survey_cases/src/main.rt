@@ -1,21 +1,22 @@
-// Survey files on examples: the house on four places and what becomes of it when it is cut or changed, files past each
-// limit, and some losses of the card. Expected figures stand in the file stdout.
+//! Surveys on examples: the file of the house on four places, whole, cut and changed; files past each limit; some
+//! losses of the card; and a draft on its way to a site. The figures that are expected are in the file stdout.
 #![tactic(auto)]
 
 mod files;
 mod house;
+mod sealing;
 
-use crate::files::{answer_to, limits};
-use crate::house::{HOUSE, field_start, written};
+use crate::files::limits;
+use crate::house::{HOUSE, field_start, is_written_as};
+use crate::sealing::from_draft_to_site;
 use anyhow::anyhow;
-use survey::card::loss;
-use subject::refusal::{Fault, Refusal};
 use std::alloc::Global;
+use subject::refusal::{Fault, Refusal};
+use survey::card::loss;
 use survey::draft::Draft;
 use survey_file::reader::FileReader;
 
-// Every proper front of the house is refused with 1, at the field that is cut. How many are. (It goes over numbers of bytes, since
-// these are the cases.)
+// How many proper fronts of the house are refused with 1, at the field that is cut.
 fn fronts(reader: &mut FileReader, draft: &mut Draft) -> usize {
     (0..88)
         .filter(|count| {
@@ -28,10 +29,9 @@ fn fronts(reader: &mut FileReader, draft: &mut Draft) -> usize {
         .count()
 }
 
-// One byte of the house changed to another: refused, or read as another survey, whose file is the changed one. How many are
-// refused, how many read as another survey, and how many do neither. (Loops over numbers: a place and what is added to its byte
-// are the case, and each turn leaves where there is no memory for its draft.)
-fn changes(reader: &mut FileReader, heap: Global) -> anyhow::Result<(usize, usize, usize)> {
+// Each byte of the house is changed to each other byte: how many files are refused, how many are read as another
+// survey, whose file is the changed one, and how many are neither.
+fn changes(reader: &mut FileReader, alloc: Global) -> anyhow::Result<(usize, usize, usize)> {
     let mut refused = 0usize;
     let mut other = 0usize;
     let mut wrong = 0usize;
@@ -39,11 +39,11 @@ fn changes(reader: &mut FileReader, heap: Global) -> anyhow::Result<(usize, usiz
         for by in 1..=255u8 {
             let mut file = HOUSE;
             file[at] = file[at].wrapping_add(by);
-            let mut draft = Draft::new(heap)?;
+            let mut draft = Draft::new(alloc)?;
             match reader.read(&file, &mut draft) {
                 Err(_) => refused = refused.saturating_add(1),
                 Ok(()) => {
-                    if written(draft, &file) {
+                    if is_written_as(draft, &file) {
                         other = other.saturating_add(1)
                     } else {
                         wrong = wrong.saturating_add(1)
@@ -55,32 +55,33 @@ fn changes(reader: &mut FileReader, heap: Global) -> anyhow::Result<(usize, usiz
     Ok((refused, other, wrong))
 }
 
-fn metres(letter: char, length: u16) -> anyhow::Result<u16> {
-    loss(letter, length).map_err(|_| anyhow!("a loss of the card was refused"))
+// The loss of so many metres of a cable.
+fn loss_of(letter: char, metres: u16) -> anyhow::Result<u16> {
+    loss(letter, metres).map_err(|_| anyhow!("a loss of the card was refused"))
 }
 
 fn main(rt: HostRuntime) -> anyhow::Result<()> {
-    let heap = rt.alloc();
-    let mut reader = FileReader::new(heap)?;
-    let mut draft = Draft::new(heap)?;
+    let alloc = rt.alloc();
+    let mut reader = FileReader::new(alloc)?;
+    let mut draft = Draft::new(alloc)?;
     let whole = reader.read(&HOUSE, &mut draft).is_ok();
     let places = draft.places();
     let ways = draft.ways();
     println!(rt; "the house reads: {whole}, {places} places, {ways} ways")?;
-    let same = written(draft, &HOUSE);
+    let same = is_written_as(draft, &HOUSE);
     println!(rt; "its file is written with 88 bytes as it was read: {same}")?;
-    let mut kept = Draft::new(heap)?;
+    let mut kept = Draft::new(alloc)?;
     let right = fronts(&mut reader, &mut kept);
     println!(rt; "of 88 proper fronts {right} are refused with 1 at the field that is cut")?;
     let untouched = kept.places() == 0 && kept.ways() == 0;
     println!(rt; "the draft is untouched by them: {untouched}")?;
-    let (refused, other, wrong) = changes(&mut reader, heap)?;
+    let (refused, other, wrong) = changes(&mut reader, alloc)?;
     let all = refused.saturating_add(other).saturating_add(wrong);
     println!(rt; "of {all} changes of one byte {wrong} read as the house")?;
     limits(&rt, &mut reader)?;
-    let u = metres('U', 7)?;
-    let f = metres('F', 25)?;
-    let g = metres('F', 26)?;
+    let u = loss_of('U', 7)?;
+    let f = loss_of('F', 25)?;
+    let g = loss_of('F', 26)?;
     println!(rt; "U 7 m is {u}, F 25 m is {f}, F 26 m is {g}")?;
-    Ok(())
+    from_draft_to_site(&rt)
 }

@@ -1,14 +1,13 @@
-// From a draft to a site: enters a small house, seals the draft, and looks at it as a site for each charge kind. The folder
-// refused/ holds edits of this program that the compiler must refuse: a sealed draft cannot be changed, and an unsealed one
-// is no site.
+// From a draft to a site: a small house is entered, its draft is sealed, and it is looked at as a site for each charge
+// kind. The folder refused/ has edits of this file that the compiler must refuse: a sealed draft cannot be changed, and
+// an unsealed one is no site.
 use anyhow::anyhow;
 use subject::refusal::Refusal;
 use subject::site::Site;
 use survey::draft::Draft;
 use survey::entry::WayEntry;
 use survey::sealed::Sealed;
-use survey::view::DisturbanceView;
-use survey::view::MoneyView;
+use survey::view::{DisturbanceView, MoneyView};
 
 // Three places, of which the middle one can have a repeater, and two ways.
 fn enter(draft: &mut Draft) -> Result<(), Refusal> {
@@ -42,7 +41,7 @@ fn loss_of(survey: &Sealed, way: usize) -> Option<u16> {
     Some(DisturbanceView::over(survey).way(way)?.loss)
 }
 
-fn main(rt: HostRuntime) -> anyhow::Result<()> {
+pub fn from_draft_to_site(rt: &HostRuntime) -> anyhow::Result<()> {
     let mut draft = Draft::new(rt.alloc())?;
     let entered = enter(&mut draft).is_ok();
     let survey = draft.seal();

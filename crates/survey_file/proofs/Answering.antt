@@ -2,7 +2,7 @@
 use Rattle.std.proofs.Common.{◌≡◌, ℕ, Bool, true, false, cond, is_ok, Ok, Err, Result, refl, arith}
 use Rattle.subject.specs.declared.refusal.Refusal.{Refusal}
 use Rattle.survey.specs.Checks.{then}
-use Rattle.survey_file.specs.Fields.{located}
+use Rattle.survey_file.specs.Fields.{with_place}
 
 pub unit_ok : {E : Type 0} (r : Result (Unit {0}) E) → is_ok r ≡ true → r ≡ Ok tt
 unit_ok (Ok u) h = refl
@@ -26,6 +26,6 @@ pub unless_ok : {X E : Type 0} (b : Bool) (r : Result X E) (e : E) (x : X) → c
 unless_ok false r e x h = (refl, h)
 unless_ok true r e x h = absurd (never e x h)
 
-pub located_ok : {X : Type 0} (r : Result X Refusal) (at : ℕ) (x : X) → located r at ≡ Ok x → r ≡ Ok x
-located_ok (Ok y) at x h = cc
-located_ok (Err e) at x h = cc
+pub with_place-ok : {X : Type 0} (r : Result X Refusal) (at : ℕ) (x : X) → with_place r at ≡ Ok x → r ≡ Ok x
+with_place-ok (Ok y) at x h = cc
+with_place-ok (Err e) at x h = cc

@@ -10,20 +10,20 @@ use Rattle.survey.specs.Edits.{answer_of}
 use Rattle.survey_file.specs.declared.reader.Phase.{Phase}
 use Rattle.survey_file.specs.declared.reader.State.{State}
 use Rattle.survey_file.specs.declared.record.Record.{Record}
-use Rattle.survey_file.specs.Fields.{fault_of, located}
-use Rattle.survey_file.specs.Decode.{Turned, to, state_of}
+use Rattle.survey_file.specs.Fields.{fault_of, with_place}
+use Rattle.survey_file.specs.Decode.{Turn, to, state_of}
 
 -- what a draft with the contents c makes of a record, behind which the reader has come to p
 module _ {E : Type 0} (entered : Contents → E → Result Contents Refusal) (c : Contents) (p : Phase) (at : ℕ) where
-  abbrev pub entering : Result (Record E) Fault → Result Turned Fault
-  entering r = then r (λ x. then (located (entered c x.entry) at) (λ d. Ok (to p x.next d)))
+  abbrev pub entering : Result (Record E) Fault → Result Turn Fault
+  entering r = then r (λ x. then (with_place (entered c x.entry) at) (λ d. Ok (to p x.next d)))
 
   abbrev pub behind : Record E → State
   behind x = record { phase = p; at = x.next }
 
   moved : (s : State) (e : Result Contents Refusal) (q : Result ℕ Refusal) (m : Result ℕ Fault) → answer_of s q ≡ answer_of s e
       → MatchResult q (λ n. m ≡ Ok n) (λ w. m ≡ Err (fault_of w at))
-      → result_and m (Ok s) ≡ state_of (then (located e at) (λ d. Ok (record { state = s; entered = d })))
+      → result_and m (Ok s) ≡ state_of (then (with_place e at) (λ d. Ok (record { state = s; draft = d })))
   moved s (Ok d) (Ok n) (Ok k) a b = refl
   moved s (Err e) (Err w) (Err f) a b = grind arith
   moved s e q m a b = grind arith

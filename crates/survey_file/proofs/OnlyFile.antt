@@ -4,8 +4,10 @@ use Rattle.std.proofs.Common.{◌≡◌, ℕ, zero, suc, ◌+◌, ◌-◌, ◌/�
 use Rattle.std.specs.List.{flat_map}
 use Rattle.std.proofs.lemmas.List.{append_assoc, append-nil, drop_more, drop_all, get_or_past}
 use Rattle.std.proofs.lemmas.Bool.{ltb-false, eqb-true, cases_lt}
+use Rattle.subject.specs.declared.refusal.Refusal.{Refusal}
 use Rattle.subject.specs.declared.refusal.Refusal.TheVariants.{CutShort, WrongLength, WrongTag, WrongEdition, BytesBehind, DraftFull}
 use Rattle.subject.specs.declared.refusal.Fault.{Fault}
+use Rattle.survey.specs.declared.draft.TheConstants.{MOST_DRAFT_PLACES, MOST_DRAFT_WAYS}
 use Rattle.survey.specs.declared.entry.Place.{Place}
 use Rattle.survey.specs.declared.entry.WayEntry.{WayEntry}
 use Rattle.survey.specs.Checks.{then, place_check, way_check}
@@ -13,13 +15,14 @@ use Rattle.survey.specs.Contents.{Contents, no_contents}
 use Rattle.survey.specs.Edits.{of_repeater, add_place, add_way}
 use Rattle.survey_file.specs.declared.field.Head.{Head}
 use Rattle.survey_file.specs.declared.record.Record.{Record}
+use Rattle.survey_file.specs.declared.reader.Phase.{Phase}
 use Rattle.survey_file.specs.declared.reader.Phase.TheVariants as phase
 use Rattle.survey_file.specs.declared.reader.State.{State}
-use Rattle.survey_file.specs.Fields.{fault, located, two_at, four_at, head_at, body_at}
+use Rattle.survey_file.specs.Fields.{fault, with_place, two_at, four_at, head_at, body_at}
 use Rattle.survey_file.specs.Records.{way_in, edition_at, place_at, way_at, end_at}
-use Rattle.survey_file.specs.Decode.{Turned, to, enter_edition, enter_place, enter_way, enter_end, turn_of, move_of, ended, walk, start, decode}
-use Rattle.survey_file.specs.Encode.{head_field, repeater_field, place_field, way_field, end_field, file_of, Bytes}
-use Rattle.survey_file.proofs.Answering.{never, ok_same, then_ok, if_ok, unless_ok, located_ok}
+use Rattle.survey_file.specs.Decode.{Turn, to, enter, enter_edition, enter_place, enter_way, enter_end, turn_of, move_of, is_ended, walk, start, decode}
+use Rattle.survey_file.specs.Encode.{head_field, repeater_field, place_field, way_field, end_field, file_of, IsBytes}
+use Rattle.survey_file.proofs.Answering.{never, ok_same, then_ok, if_ok, unless_ok, with_place-ok}
 use Rattle.survey_file.proofs.ReadsBack.{head, state, with_places, with_ways, way_record}
 
 -- k bytes, from the place at + j on
@@ -47,14 +50,14 @@ cut_here k at next bs n h =
 -- what the draft holds behind an entry that it took
 place_entered : (c : Contents) (r : Option ℕ) (d : Contents) → add_place c r ≡ Ok d → d ≡ with_places c (of_repeater r ∷ [])
 place_entered c r d e =
-    let p = if_ok (ltb (length c.places) 256) (then (place_check r) (λ _. Ok (with_places c (of_repeater r ∷ [])))) DraftFull d e in
+    let p = if_ok (ltb (length c.places) MOST_DRAFT_PLACES) (then (place_check r) (λ _. Ok (with_places c (of_repeater r ∷ [])))) DraftFull d e in
     let q = then_ok (place_check r) (λ _. Ok (with_places c (of_repeater r ∷ []))) d p.1 in
     let last = q.2 in
     cc
 
 way_entered : (c : Contents) (w : WayEntry) (d : Contents) → add_way c w ≡ Ok d → d ≡ with_ways c (w ∷ [])
 way_entered c w d e =
-    let p = if_ok (ltb (length c.ways) 1024) (then (way_check (length c.places) w) (λ _. Ok (with_ways c (w ∷ [])))) DraftFull d e in
+    let p = if_ok (ltb (length c.ways) MOST_DRAFT_WAYS) (then (way_check (length c.places) w) (λ _. Ok (with_ways c (w ∷ [])))) DraftFull d e in
     let q = then_ok (way_check (length c.places) w) (λ _. Ok (with_ways c (w ∷ []))) d p.1 in
     let last = q.2 in
     cc
@@ -192,49 +195,54 @@ module _ (bs : List ℕ) (small : (i : ℕ) → get_or bs i 0 < 256) where
       (field at 2 4 q.0 h (repeater_field (Some (four_at bs (at + 3)))) hd bd tag (omega arith) (price_bytes at), bd.inside)
 
   -- an accepted field: its entry, the next place, and what the reader makes of it
-  pub record Step {X : Type 0} (bytes_of : X → List ℕ) (at : ℕ) (after : X → ℕ → Turned) (t : Turned) : Type 0 where
+  pub record Step {X : Type 0} (bytes_of : X → List ℕ) (at : ℕ) (after : X → ℕ → Turn) (t : Turn) : Type 0 where
     pub entry : X
     pub next : ℕ
     pub bytes : drop at bs ≡ bytes_of entry ++ drop next bs
     pub inside : next ≤ length bs
     pub is : t ≡ after entry next
 
-  step_place : (at : ℕ) (c : Contents) (h : Head) (t : Turned) → Headed at h → h.tag ≡ 2 → enter_place bs at h c ≡ Ok t
+  -- a field whose entry was read and put into the draft
+  step_entry : {X : Type 0} (read : List ℕ → ℕ → Head → Result (Record X) Fault) (add : Contents → X → Result Contents Refusal)
+      (p : Phase) (bytes_of : X → List ℕ) (with : X → Contents) (at : ℕ) (c : Contents) (h : Head) (t : Turn)
+      → ((x : Record X) → read bs at h ≡ Ok x → (drop at bs ≡ bytes_of x.entry ++ drop x.next bs) × (x.next ≤ length bs))
+      → ((x : X) (d : Contents) → add c x ≡ Ok d → d ≡ with x)
+      → enter read add p bs at h c ≡ Ok t → Step bytes_of at (λ x n. to p n (with x)) t
+  step_entry read add p bytes_of with at c h t says adds e =
+      let q = then_ok (read bs at h) (λ x. then (with_place (add c x.entry) at) (λ d. Ok (to p x.next d))) t e in
+      let r = then_ok (with_place (add c q.0.entry) at) (λ d. Ok (to p q.0.next d)) t q.2 in
+      let taken = with_place-ok (add c q.0.entry) at r.0 r.1 in
+      let said = says q.0 q.1 in
+      record {
+        entry = q.0.entry;
+        next = q.0.next;
+        bytes = said.0;
+        inside = said.1;
+        is = sym (ok_same (to p q.0.next r.0) t r.2) ∙ ap (to p q.0.next) (adds q.0.entry r.0 taken);
+      }
+
+  step_place : (at : ℕ) (c : Contents) (h : Head) (t : Turn) → Headed at h → h.tag ≡ 2 → enter_place bs at h c ≡ Ok t
       → Step place_field at (λ p n. to phase.Places n (with_places c (p ∷ []))) t
   step_place at c h t hd tag e =
-      let q = then_ok (place_at bs at h) (λ p. then (located (add_place c p.entry.repeater) at) (λ d. Ok (to phase.Places p.next d))) t e in
-      let r = then_ok (located (add_place c q.0.entry.repeater) at) (λ d. Ok (to phase.Places q.0.next d)) t q.2 in
-      let taken = located_ok (add_place c q.0.entry.repeater) at r.0 r.1 in
-      let read = place_read (eqb h.length 0) at h q.0 hd tag refl q.1 in
-      let entered = place_entered c q.0.entry.repeater r.0 taken in
-      record {
-        entry = q.0.entry;
-        next = q.0.next;
-        bytes = read.0;
-        inside = read.1;
-        is = sym (ok_same (to phase.Places q.0.next r.0) t r.2) ∙ ap (to phase.Places q.0.next) entered;
-      }
+      step_entry place_at (λ b p. add_place b p.repeater) phase.Places place_field (λ p. with_places c (p ∷ [])) at c h t
+      (λ x read. place_read (eqb h.length 0) at h x hd tag refl read) (λ x d taken. place_entered c x.repeater d taken) e
 
-  step_way : (at : ℕ) (c : Contents) (h : Head) (t : Turned) → Headed at h → h.tag ≡ 3 → enter_way bs at h c ≡ Ok t
+  way_read : (at : ℕ) (h : Head) (x : Record WayEntry) → Headed at h → h.tag ≡ 3 → way_at bs at h ≡ Ok x
+      → (drop at bs ≡ way_field x.entry ++ drop x.next bs) × (x.next ≤ length bs)
+  way_read at h x hd tag e =
+      let b = then_ok (body_at bs at h 12) (λ next. Ok (way_record (way_in bs (at + 3)) next)) x e in
+      let same = ok_same (way_record (way_in bs (at + 3)) b.0) x b.2 in
+      let bd = body_ok at h 12 b.0 hd b.1 in
+      subst (λ y. (drop at bs ≡ way_field y.entry ++ drop y.next bs) × (y.next ≤ length bs)) same
+      (field at 3 12 b.0 h (way_field (way_in bs (at + 3))) hd bd tag (omega arith) (way_bytes at), bd.inside)
+
+  step_way : (at : ℕ) (c : Contents) (h : Head) (t : Turn) → Headed at h → h.tag ≡ 3 → enter_way bs at h c ≡ Ok t
       → Step way_field at (λ w n. to phase.Ways n (with_ways c (w ∷ []))) t
   step_way at c h t hd tag e =
-      let q = then_ok (way_at bs at h) (λ w. then (located (add_way c w.entry) at) (λ d. Ok (to phase.Ways w.next d))) t e in
-      let r = then_ok (located (add_way c q.0.entry) at) (λ d. Ok (to phase.Ways q.0.next d)) t q.2 in
-      let entered = way_entered c q.0.entry r.0 (located_ok (add_way c q.0.entry) at r.0 r.1) in
-      let b = then_ok (body_at bs at h 12) (λ next. Ok (way_record (way_in bs (at + 3)) next)) q.0 q.1 in
-      let same = ok_same (way_record (way_in bs (at + 3)) b.0) q.0 b.2 in
-      let bd = body_ok at h 12 b.0 hd b.1 in
-      let read = subst (λ x. (drop at bs ≡ way_field x.entry ++ drop x.next bs) × (x.next ≤ length bs)) same
-      (field at 3 12 b.0 h (way_field (way_in bs (at + 3))) hd bd tag (omega arith) (way_bytes at), bd.inside) in
-      record {
-        entry = q.0.entry;
-        next = q.0.next;
-        bytes = read.0;
-        inside = read.1;
-        is = sym (ok_same (to phase.Ways q.0.next r.0) t r.2) ∙ ap (to phase.Ways q.0.next) entered;
-      }
+      step_entry way_at add_way phase.Ways way_field (λ w. with_ways c (w ∷ [])) at c h t
+      (λ x read. way_read at h x hd tag read) (λ x d taken. way_entered c x d taken) e
 
-  step_edition : (at : ℕ) (c : Contents) (h : Head) (t : Turned) → Headed at h → h.tag ≡ 1 → enter_edition bs at h c ≡ Ok t
+  step_edition : (at : ℕ) (c : Contents) (h : Head) (t : Turn) → Headed at h → h.tag ≡ 1 → enter_edition bs at h c ≡ Ok t
       → Step (λ (u : Unit {0}). head_field) at (λ u n. to phase.Places n c) t
   step_edition at c h t hd tag e =
       let q = then_ok (edition_at bs at h) (λ next. Ok (to phase.Places next c)) t e in
@@ -250,7 +258,7 @@ module _ (bs : List ℕ) (small : (i : ℕ) → get_or bs i 0 < 256) where
         is = sym (ok_same (to phase.Places q.0 c) t q.2) ∙ ap (λ n. to phase.Places n c) (sym same);
       }
 
-  step_end : (at : ℕ) (c : Contents) (h : Head) (t : Turned) → Headed at h → h.tag ≡ 4 → enter_end bs at h c ≡ Ok t
+  step_end : (at : ℕ) (c : Contents) (h : Head) (t : Turn) → Headed at h → h.tag ≡ 4 → enter_end bs at h c ≡ Ok t
       → (drop at bs ≡ end_field) × ((n : ℕ) × (t ≡ to phase.Ended n c))
   step_end at c h t hd tag e =
       let q = then_ok (end_at bs at h) (λ next. Ok (to phase.Ended next c)) t e in
@@ -262,12 +270,12 @@ module _ (bs : List ℕ) (small : (i : ℕ) → get_or bs i 0 < 256) where
       )
 
   -- one turn of the walk
-  walk_step : (n : ℕ) (s : State) (c d : Contents) → ended s.phase ≡ false → walk (suc n) bs s c ≡ Ok d
-      → (t : Turned) × (turn_of bs s c ≡ Ok t) × (walk n bs t.state t.entered ≡ Ok d)
+  walk_step : (n : ℕ) (s : State) (c d : Contents) → is_ended s.phase ≡ false → walk (suc n) bs s c ≡ Ok d
+      → (t : Turn) × (turn_of bs s c ≡ Ok t) × (walk n bs t.state t.draft ≡ Ok d)
   unfolding walk
   walk_step n s c d going e =
-      then_ok (turn_of bs s c) (λ t. walk n bs t.state t.entered) d
-      (ap (λ b. cond b (Ok c) (then (turn_of bs s c) (λ t. walk n bs t.state t.entered))) (sym going) ∙ e)
+      then_ok (turn_of bs s c) (λ t. walk n bs t.state t.draft) d
+      (ap (λ b. cond b (Ok c) (then (turn_of bs s c) (λ t. walk n bs t.state t.draft))) (sym going) ∙ e)
 
   walk_none : (s : State) (c d : Contents) → walk 0 bs s c ≡ Ok d → ⊥
   unfolding walk
@@ -279,7 +287,7 @@ module _ (bs : List ℕ) (small : (i : ℕ) → get_or bs i 0 < 256) where
   walk_end (suc n) at c d e = sym (ok_same c d e)
 
   -- the turn of a state, by its head
-  turned : (s : State) (c : Contents) (t : Turned) → turn_of bs s c ≡ Ok t → (h : Head) × Headed s.at h × (move_of s.phase bs s.at h c ≡ Ok t)
+  turned : (s : State) (c : Contents) (t : Turn) → turn_of bs s c ≡ Ok t → (h : Head) × Headed s.at h × (move_of s.phase bs s.at h c ≡ Ok t)
   turned s c t e = let q = then_ok (head_at bs s.at) (λ h. move_of s.phase bs s.at h c) t e in (q.0, head_ok s.at q.0 q.1, q.2)
 
   -- what is left behind the places: ways and the end
@@ -296,14 +304,14 @@ module _ (bs : List ℕ) (small : (i : ℕ) → get_or bs i 0 < 256) where
     pub bytes : drop at bs ≡ flat_map place_field places ++ (flat_map way_field ways ++ end_field)
 
   -- an end is all that is left
-  rest_end : (n at : ℕ) (c d : Contents) (h : Head) (t : Turned) → Headed at h → h.tag ≡ 4 → enter_end bs at h c ≡ Ok t → walk n bs t.state t.entered ≡ Ok d → Rest at c d
+  rest_end : (n at : ℕ) (c d : Contents) (h : Head) (t : Turn) → Headed at h → h.tag ≡ 4 → enter_end bs at h c ≡ Ok t → walk n bs t.state t.draft ≡ Ok d → Rest at c d
   rest_end n at c d h t hd tag e on =
       let s = step_end at c h t hd tag e in
-      let last = walk_end n s.1.0 c d (ap (λ x. walk n bs x.state x.entered) (sym s.1.1) ∙ on) in
+      let last = walk_end n s.1.0 c d (ap (λ x. walk n bs x.state x.draft) (sym s.1.1) ∙ on) in
       record { ways = []; is = last ∙ ap (λ x. record { places = c.places; ways = x }) (sym (append-nil c.ways)); bytes = s.0 }
 
   -- a way, and what is left behind it
-  rest_more : (at : ℕ) (c d : Contents) (t : Turned) (s : Step way_field at (λ w n. to phase.Ways n (with_ways c (w ∷ []))) t)
+  rest_more : (at : ℕ) (c d : Contents) (t : Turn) (s : Step way_field at (λ w n. to phase.Ways n (with_ways c (w ∷ []))) t)
       → Rest s.next (with_ways c (s.entry ∷ [])) d → Rest at c d
   rest_more at c d t s r = record {
     ways = s.entry ∷ r.ways;
@@ -311,21 +319,29 @@ module _ (bs : List ℕ) (small : (i : ℕ) → get_or bs i 0 < 256) where
     bytes = s.bytes ∙ ap (λ xs. way_field s.entry ++ xs) r.bytes;
   }
 
+  -- a turn that reads a way or the end, where what follows a way is known
+  rest_turn : (n at : ℕ) (c d : Contents) (h : Head) (t : Turn) → Headed at h
+      → cond (eqb h.tag 3) (enter_way bs at h c) (cond (eqb h.tag 4) (enter_end bs at h c) (fault WrongTag at)) ≡ Ok t
+      → walk n bs t.state t.draft ≡ Ok d
+      → ((next : ℕ) (b : Contents) → walk n bs (state phase.Ways next) b ≡ Ok d → Rest next b d) → Rest at c d
+  rest_turn n at c d h t hd move on later =
+      elim (tag_is h.tag 3 (enter_way bs at h c) (cond (eqb h.tag 4) (enter_end bs at h c) (fault WrongTag at)) t move) [
+        | inl w ↦
+            let s = step_way at c h t hd w.0 w.1 in
+            rest_more at c d t s
+            (later s.next (with_ways c (s.entry ∷ [])) (ap (λ x. walk n bs x.state x.draft) (sym s.is) ∙ on))
+        | inr other ↦ elim (tag_is h.tag 4 (enter_end bs at h c) (fault WrongTag at) t other) [
+          | inl x ↦ rest_end n at c d h t hd x.0 x.1 on
+          | inr wrong ↦ absurd (never (record { refusal = WrongTag; place = at }) t wrong)
+        ]
+      ]
+
   rest_ways : (n at : ℕ) (c d : Contents) → walk n bs (state phase.Ways at) c ≡ Ok d → Rest at c d
   rest_ways zero at c d e = absurd (walk_none (state phase.Ways at) c d e)
   rest_ways (suc n) at c d e =
       let q = walk_step n (state phase.Ways at) c d refl e in
       let m = turned (state phase.Ways at) c q.0 q.1 in
-      let h = m.0 in
-      elim (tag_is h.tag 3 (enter_way bs at h c) (cond (eqb h.tag 4) (enter_end bs at h c) (fault WrongTag at)) q.0 m.2) [
-        | inl w ↦
-            let s = step_way at c h q.0 m.1 w.0 w.1 in
-            rest_more at c d q.0 s (rest_ways n s.next (with_ways c (s.entry ∷ [])) d (ap (λ x. walk n bs x.state x.entered) (sym s.is) ∙ q.2))
-        | inr other ↦ elim (tag_is h.tag 4 (enter_end bs at h c) (fault WrongTag at) q.0 other) [
-          | inl x ↦ rest_end n at c d h q.0 m.1 x.0 x.1 q.2
-          | inr wrong ↦ absurd (never (record { refusal = WrongTag; place = at }) q.0 wrong)
-        ]
-      ]
+      rest_turn n at c d m.0 q.0 m.1 m.2 q.2 (λ next b on. rest_ways n next b d on)
 
   -- with no place more, the rest is all
   body_rest : (at : ℕ) (c d : Contents) → Rest at c d → Body at c d
@@ -336,7 +352,7 @@ module _ (bs : List ℕ) (small : (i : ℕ) → get_or bs i 0 < 256) where
     bytes = r.bytes;
   }
 
-  body_more : (at : ℕ) (c d : Contents) (t : Turned) (s : Step place_field at (λ p n. to phase.Places n (with_places c (p ∷ []))) t)
+  body_more : (at : ℕ) (c d : Contents) (t : Turn) (s : Step place_field at (λ p n. to phase.Places n (with_places c (p ∷ []))) t)
       → Body s.next (with_places c (s.entry ∷ [])) d → Body at c d
   body_more at c d t s r = record {
     places = s.entry ∷ r.places;
@@ -356,16 +372,8 @@ module _ (bs : List ℕ) (small : (i : ℕ) → get_or bs i 0 < 256) where
       elim (tag_is h.tag 2 (enter_place bs at h c) after-place q.0 m.2) [
         | inl p ↦
             let s = step_place at c h q.0 m.1 p.0 p.1 in
-            body_more at c d q.0 s (body_places n s.next (with_places c (s.entry ∷ [])) d (ap (λ x. walk n bs x.state x.entered) (sym s.is) ∙ q.2))
-        | inr other ↦ elim (tag_is h.tag 3 (enter_way bs at h c) (cond (eqb h.tag 4) (enter_end bs at h c) (fault WrongTag at)) q.0 other) [
-          | inl w ↦
-              let s = step_way at c h q.0 m.1 w.0 w.1 in
-              body_rest at c d (rest_more at c d q.0 s (rest_ways n s.next (with_ways c (s.entry ∷ [])) d (ap (λ x. walk n bs x.state x.entered) (sym s.is) ∙ q.2)))
-          | inr last ↦ elim (tag_is h.tag 4 (enter_end bs at h c) (fault WrongTag at) q.0 last) [
-            | inl x ↦ body_rest at c d (rest_end n at c d h q.0 m.1 x.0 x.1 q.2)
-            | inr wrong ↦ absurd (never (record { refusal = WrongTag; place = at }) q.0 wrong)
-          ]
-        ]
+            body_more at c d q.0 s (body_places n s.next (with_places c (s.entry ∷ [])) d (ap (λ x. walk n bs x.state x.draft) (sym s.is) ∙ q.2))
+        | inr other ↦ body_rest at c d (rest_turn n at c d h q.0 m.1 other q.2 (λ next b on. rest_ways n next b d on))
       ]
 
   whole : (d : Contents) → decode bs ≡ Ok d → bs ≡ file_of d
@@ -376,13 +384,13 @@ module _ (bs : List ℕ) (small : (i : ℕ) → get_or bs i 0 < 256) where
       elim (tag_is h.tag 1 (enter_edition bs 0 h no_contents) (fault WrongTag 0) q.0 m.2) [
         | inl x ↦
             let s = step_edition 0 no_contents h q.0 m.1 x.0 x.1 in
-            let b = body_places (length bs) s.next no_contents d (ap (λ x. walk (length bs) bs x.state x.entered) (sym s.is) ∙ q.2) in
+            let b = body_places (length bs) s.next no_contents d (ap (λ x. walk (length bs) bs x.state x.draft) (sym s.is) ∙ q.2) in
             s.bytes ∙ ap (λ xs. head_field ++ xs) b.bytes ∙ ap file_of (sym b.is)
         | inr wrong ↦ absurd (never (record { refusal = WrongTag; place = 0 }) q.0 wrong)
       ]
 
 -- a list of bytes that is accepted is the file of what it reads as
-pub only_file : (bs : List ℕ) (d : Contents) → Bytes bs → decode bs ≡ Ok d → bs ≡ file_of d
+pub only_file : (bs : List ℕ) (d : Contents) → IsBytes bs → decode bs ≡ Ok d → bs ≡ file_of d
 only_file bs d bytes e =
     whole bs (λ i. elim (cases_lt i (length bs)) [ inl lt ↦ bytes i lt | inr past ↦ ap_below (get_or_past bs i 0 past) ]) d e
   where

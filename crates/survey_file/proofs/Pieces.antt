@@ -8,38 +8,38 @@ use Rattle.subject.specs.declared.refusal.Refusal.{Refusal}
 use Rattle.subject.specs.declared.refusal.Refusal.TheVariants.{NoRoom}
 use Rattle.survey_file.specs.Pieces.{put_answer, put_bytes}
 
-pub placed_fits : (out : List ℕ) (at : ℕ) (xs : List ℕ) → at + length xs ≤ length out → put_answer out at xs ≡ Ok (at + length xs)
-placed_fits out at xs h = cond-true (leb (at + length xs) (length out)) (Ok (at + length xs)) (Err NoRoom) (le-leb (at + length xs) (length out) h)
+pub put_answer-fits : (out : List ℕ) (at : ℕ) (xs : List ℕ) → at + length xs ≤ length out → put_answer out at xs ≡ Ok (at + length xs)
+put_answer-fits out at xs h = cond-true (leb (at + length xs) (length out)) (Ok (at + length xs)) (Err NoRoom) (le-leb (at + length xs) (length out) h)
 
-pub over_fits : (out : List ℕ) (at : ℕ) (xs : List ℕ) → at + length xs ≤ length out → put_bytes out at xs ≡ take at out ++ (xs ++ drop (at + length xs) out)
-over_fits out at xs h = cond-true (leb (at + length xs) (length out)) (take at out ++ (xs ++ drop (at + length xs) out)) out (le-leb (at + length xs) (length out) h)
+pub put_bytes-fits : (out : List ℕ) (at : ℕ) (xs : List ℕ) → at + length xs ≤ length out → put_bytes out at xs ≡ take at out ++ (xs ++ drop (at + length xs) out)
+put_bytes-fits out at xs h = cond-true (leb (at + length xs) (length out)) (take at out ++ (xs ++ drop (at + length xs) out)) out (le-leb (at + length xs) (length out) h)
 
 -- to lay a piece keeps how many bytes there are
-pub over_length : (out : List ℕ) (at : ℕ) (xs : List ℕ) → at + length xs ≤ length out → length (put_bytes out at xs) ≡ length out
-over_length out at xs h =
+pub length-put_bytes : (out : List ℕ) (at : ℕ) (xs : List ℕ) → at + length xs ≤ length out → length (put_bytes out at xs) ≡ length out
+length-put_bytes out at xs h =
     let a = length-take-le at out (omega arith) in
     let b = length-drop (at + length xs) out in
     let c = length-append (take at out) (xs ++ drop (at + length xs) out) in
     let d = length-append xs (drop (at + length xs) out) in
-    ap length (over_fits out at xs h) ∙ omega arith
+    ap length (put_bytes-fits out at xs h) ∙ omega arith
 
 -- nothing laid changes nothing
-pub over_none : (out : List ℕ) (at : ℕ) → at ≤ length out → put_bytes out at [] ≡ out
-over_none out at h =
+pub put_bytes-none : (out : List ℕ) (at : ℕ) → at ≤ length out → put_bytes out at [] ≡ out
+put_bytes-none out at h =
     let same : at + 0 ≡ at = omega arith in
-    over_fits out at [] (omega arith) ∙ ap (λ n. take at out ++ drop n out) same ∙ take-append-drop at out
+    put_bytes-fits out at [] (omega arith) ∙ ap (λ n. take at out ++ drop n out) same ∙ take-append-drop at out
 
 -- one piece behind another
-pub over_more : (out : List ℕ) (at next : ℕ) (xs ys : List ℕ) → next ≡ at + length xs → at + length (xs ++ ys) ≤ length out
+pub put_bytes-put_bytes : (out : List ℕ) (at next : ℕ) (xs ys : List ℕ) → next ≡ at + length xs → at + length (xs ++ ys) ≤ length out
     → put_bytes (put_bytes out at xs) next ys ≡ put_bytes out at (xs ++ ys)
-over_more out at next xs ys n h =
+put_bytes-put_bytes out at next xs ys n h =
     let long = length-append xs ys in
     let first_fits : at + length xs ≤ length out = omega arith in
     let o = put_bytes out at xs in
-    let same_length = over_length out at xs first_fits in
+    let same_length = length-put_bytes out at xs first_fits in
     let front = length-take-le at out (omega arith) in
     let o_is : o ≡ (take at out ++ xs) ++ drop (at + length xs) out =
-    over_fits out at xs first_fits ∙ sym (append_assoc (take at out) xs (drop (at + length xs) out)) in
+    put_bytes-fits out at xs first_fits ∙ sym (append_assoc (take at out) xs (drop (at + length xs) out)) in
     let front_long : length (take at out ++ xs) ≡ next = length-append (take at out) xs ∙ omega arith in
     let taken : take next o ≡ take at out ++ xs = ap (take next) o_is ∙ take_at (take at out ++ xs) (drop (at + length xs) out) next front_long in
     let together : at + length xs + length ys ≡ at + length (xs ++ ys) = omega arith in
@@ -49,12 +49,12 @@ over_more out at next xs ys n h =
     ∙ ap (drop (length ys)) (drop_at (take at out ++ xs) (drop (at + length xs) out) next front_long)
     ∙ drop-drop (length ys) (at + length xs) out
     ∙ ap (λ m. drop m out) together in
-    over_fits o next ys (omega arith)
+    put_bytes-fits o next ys (omega arith)
     ∙ ap (λ f. f ++ (ys ++ drop (next + length ys) o)) taken
     ∙ ap (λ b. (take at out ++ xs) ++ (ys ++ b)) left
     ∙ append_assoc (take at out) xs (ys ++ drop (at + length (xs ++ ys)) out)
     ∙ ap (λ x. take at out ++ x) (sym (append_assoc xs ys (drop (at + length (xs ++ ys)) out)))
-    ∙ sym (over_fits out at (xs ++ ys) h)
+    ∙ sym (put_bytes-fits out at (xs ++ ys) h)
 
 -- a write to the part from `at` on, as the checker tells it
 pub written : (out xs last : List ℕ) (at k : ℕ) → at + length xs ≤ length out → last ≡ xs → k ≡ length xs → put_mid at k out last ≡ put_bytes out at xs
@@ -62,20 +62,20 @@ written out xs last at k h e n =
     put_mid-paste at k out last xs (length xs) e (sym n) refl
     ∙ ap (λ s. (take at out ++ s) ++ drop (at + length xs) out) (take_all (length xs) xs (omega arith))
     ∙ append_assoc (take at out) xs (drop (at + length xs) out)
-    ∙ sym (over_fits out at xs h)
+    ∙ sym (put_bytes-fits out at xs h)
 
 -- a piece that does not fit is refused, and changes nothing
-pub placed_not : (out : List ℕ) (at : ℕ) (xs : List ℕ) → length out < at + length xs → put_answer out at xs ≡ Err NoRoom
-placed_not out at xs h = cond-false (leb (at + length xs) (length out)) (Ok (at + length xs)) (Err NoRoom) (lt-leb (at + length xs) (length out) h)
+pub put_answer-short : (out : List ℕ) (at : ℕ) (xs : List ℕ) → length out < at + length xs → put_answer out at xs ≡ Err NoRoom
+put_answer-short out at xs h = cond-false (leb (at + length xs) (length out)) (Ok (at + length xs)) (Err NoRoom) (lt-leb (at + length xs) (length out) h)
 
-pub over_not : (out : List ℕ) (at : ℕ) (xs : List ℕ) → length out < at + length xs → put_bytes out at xs ≡ out
-over_not out at xs h = cond-false (leb (at + length xs) (length out)) (take at out ++ (xs ++ drop (at + length xs) out)) out (lt-leb (at + length xs) (length out) h)
+pub put_bytes-short : (out : List ℕ) (at : ℕ) (xs : List ℕ) → length out < at + length xs → put_bytes out at xs ≡ out
+put_bytes-short out at xs h = cond-false (leb (at + length xs) (length out)) (take at out ++ (xs ++ drop (at + length xs) out)) out (lt-leb (at + length xs) (length out) h)
 
 -- a piece that was laid had room
-pub placed_ok : (out : List ℕ) (at : ℕ) (xs : List ℕ) (n : ℕ) → Ok n ≡ put_answer out at xs → (at + length xs ≤ length out) × (n ≡ at + length xs)
-placed_ok out at xs n h = elim (cases_lt (length out) (at + length xs)) [
-  | inl short ↦ let z : ◌≡◌ {A = ℕ} 0 1 = no_room (h ∙ placed_not out at xs short) in absurd (omega arith)
-  | inr fits ↦ (fits, same (h ∙ placed_fits out at xs fits))
+pub put_answer-ok : (out : List ℕ) (at : ℕ) (xs : List ℕ) (n : ℕ) → Ok n ≡ put_answer out at xs → (at + length xs ≤ length out) × (n ≡ at + length xs)
+put_answer-ok out at xs n h = elim (cases_lt (length out) (at + length xs)) [
+  | inl short ↦ let z : ◌≡◌ {A = ℕ} 0 1 = no_room (h ∙ put_answer-short out at xs short) in absurd (omega arith)
+  | inr fits ↦ (fits, same (h ∙ put_answer-fits out at xs fits))
 ]
   where
     no_room : {n : ℕ} → ◌≡◌ {A = Result ℕ Refusal} (Ok n) (Err NoRoom) → ◌≡◌ {A = ℕ} 0 1
@@ -86,7 +86,7 @@ placed_ok out at xs n h = elim (cases_lt (length out) (at + length xs)) [
 
 -- a piece that has room is not refused
 pub not_refused : (out : List ℕ) (at : ℕ) (xs : List ℕ) (e : Refusal) → at + length xs ≤ length out → Err e ≡ put_answer out at xs → ⊥
-not_refused out at xs e fits refused = let z : ◌≡◌ {A = ℕ} 0 1 = apart (refused ∙ placed_fits out at xs fits) in omega arith
+not_refused out at xs e fits refused = let z : ◌≡◌ {A = ℕ} 0 1 = apart (refused ∙ put_answer-fits out at xs fits) in omega arith
   where
     apart : {n : ℕ} → ◌≡◌ {A = Result ℕ Refusal} (Err e) (Ok n) → ◌≡◌ {A = ℕ} 0 1
     apart h = cc
@@ -100,7 +100,7 @@ module _ (before xs ys : List ℕ) (at : ℕ) (out : List ℕ) (room : length (x
   pub front_fits : at + length ys ≤ length out
   front_fits =
       let long = length-append xs ys in
-      let same = ap length front.bytes ∙ over_length before 0 xs (omega arith) in
+      let same = ap length front.bytes ∙ length-put_bytes before 0 xs (omega arith) in
       let here = front.next in
       omega arith
 
@@ -109,14 +109,14 @@ module _ (before xs ys : List ℕ) (at : ℕ) (out : List ℕ) (room : length (x
       let here = front.next in
       record {
         next = n ∙ ap (λ k. k + length ys) here ∙ sym (length-append xs ys);
-        bytes = is ∙ ap (λ o. put_bytes o at ys) front.bytes ∙ over_more before 0 at xs ys (omega arith) (omega arith);
+        bytes = is ∙ ap (λ o. put_bytes o at ys) front.bytes ∙ put_bytes-put_bytes before 0 at xs ys (omega arith) (omega arith);
       }
 
 -- the first piece of a text
 pub front_first : (before xs ys : List ℕ) (at : ℕ) (out : List ℕ) → length (xs ++ ys) ≤ length before → Ok at ≡ put_answer before 0 xs → out ≡ put_bytes before 0 xs → Front before xs at out
 front_first before xs ys at out room answered is =
     let long = length-append xs ys in
-    let p = placed_ok before 0 xs at answered in
+    let p = put_answer-ok before 0 xs at answered in
     record { next = p.1 ∙ omega arith; bytes = is }
 
 -- with its last piece the whole text is laid
@@ -126,7 +126,7 @@ front_last before xs ys at out room front =
     let fits = front_fits before xs ys at out room front in
     let more = front_more before xs ys at out room front (at + length ys) (put_bytes out at ys) refl refl in
     let same = more.next in
-    (placed_fits out at ys fits ∙ ap Ok (same ∙ omega arith) ∙ sym (placed_fits before 0 (xs ++ ys) (omega arith)), more.bytes)
+    (put_answer-fits out at ys fits ∙ ap Ok (same ∙ omega arith) ∙ sym (put_answer-fits before 0 (xs ++ ys) (omega arith)), more.bytes)
 
 -- three pieces, one behind the other
 pub parts_long : (xs ys zs : List ℕ) → length (xs ++ (ys ++ zs)) ≡ length xs + (length ys + length zs)

@@ -5,6 +5,7 @@ use Rattle.std.specs.List.{flat_map}
 use Rattle.std.proofs.lemmas.List.{append_assoc, append-nil, length-append, get_or-append-add}
 use Rattle.std.proofs.lemmas.Bool.Decides.{nat_tests}
 use Rattle.subject.specs.declared.refusal.Refusal.TheVariants.{CutShort, WrongLength, WrongEdition, BytesBehind, DraftFull}
+use Rattle.survey.specs.declared.draft.TheConstants.{MOST_DRAFT_PLACES, MOST_DRAFT_WAYS}
 use Rattle.survey.specs.declared.entry.Place.{Place}
 use Rattle.survey.specs.declared.entry.WayEntry.{WayEntry}
 use Rattle.survey.specs.Checks.{then, place_check, way_check, good_places, good_way, good_ways}
@@ -12,15 +13,15 @@ use Rattle.survey.specs.Contents.{Contents, no_contents}
 use Rattle.survey.specs.declared.sealed.Sealed.{Sealed}
 use Rattle.survey.specs.Sealing.{sealed_contents}
 use Rattle.survey.specs.Edits.{of_repeater, add_place, add_way}
-use Rattle.survey.proofs.Good.{cond_first, cond_second}
+use Rattle.survey.specs.PassedChecks.{cond_first, cond_second}
 use Rattle.survey_file.specs.declared.field.Head.{Head}
 use Rattle.survey_file.specs.declared.record.Record.{Record}
 use Rattle.survey_file.specs.declared.reader.Phase.{Phase}
 use Rattle.survey_file.specs.declared.reader.Phase.TheVariants as phase
 use Rattle.survey_file.specs.declared.reader.State.{State}
-use Rattle.survey_file.specs.Fields.{fault, located, two_at, four_at, head_at, body_at}
+use Rattle.survey_file.specs.Fields.{fault, with_place, two_at, four_at, head_at, body_at}
 use Rattle.survey_file.specs.Records.{way_in, place_at, way_at, end_at}
-use Rattle.survey_file.specs.Decode.{Turned, to, turn_of, move_of, ended, walk, start, decode}
+use Rattle.survey_file.specs.Decode.{Turn, to, turn_of, move_of, is_ended, walk, start, decode}
 use Rattle.survey_file.specs.Encode.{head_field, repeater_field, place_field, way_field, end_field, file_of}
 use Rattle.survey_file.proofs.Answering.{unit_ok}
 
@@ -94,15 +95,15 @@ abbrev pub with_ways : Contents → List WayEntry → Contents
 with_ways c ws = record { places = c.places; ways = c.ways ++ ws }
 
 -- a good entry is taken
-place_taken : (c : Contents) (r : Option ℕ) → length c.places < 256 → is_ok (place_check r) ≡ true → add_place c r ≡ Ok (with_places c (of_repeater r ∷ []))
+place_taken : (c : Contents) (r : Option ℕ) → length c.places < MOST_DRAFT_PLACES → is_ok (place_check r) ≡ true → add_place c r ≡ Ok (with_places c (of_repeater r ∷ []))
 place_taken c r few good =
-    let room : ltb (length c.places) 256 ≡ true = grind (arith, nat_tests) in
+    let room : ltb (length c.places) MOST_DRAFT_PLACES ≡ true = grind (arith, nat_tests) in
     ap (λ b. cond b (then (place_check r) (λ _. Ok (with_places c (of_repeater r ∷ [])))) (Err DraftFull)) room
     ∙ ap (λ x. then x (λ _. Ok (with_places c (of_repeater r ∷ [])))) (unit_ok (place_check r) good)
 
-way_taken : (c : Contents) (w : WayEntry) → length c.ways < 1024 → is_ok (way_check (length c.places) w) ≡ true → add_way c w ≡ Ok (with_ways c (w ∷ []))
+way_taken : (c : Contents) (w : WayEntry) → length c.ways < MOST_DRAFT_WAYS → is_ok (way_check (length c.places) w) ≡ true → add_way c w ≡ Ok (with_ways c (w ∷ []))
 way_taken c w few good =
-    let room : ltb (length c.ways) 1024 ≡ true = grind (arith, nat_tests) in
+    let room : ltb (length c.ways) MOST_DRAFT_WAYS ≡ true = grind (arith, nat_tests) in
     ap (λ b. cond b (then (way_check (length c.places) w) (λ _. Ok (with_ways c (w ∷ [])))) (Err DraftFull)) room
     ∙ ap (λ x. then x (λ _. Ok (with_ways c (w ∷ [])))) (unit_ok (way_check (length c.places) w) good)
 
@@ -122,17 +123,17 @@ turn_edition bs ys c h =
 
 -- what is read of a place, and what the draft makes of it
 place_entered : (bs : List ℕ) (at : ℕ) (c : Contents) (h : Head) (r : Option ℕ) (next : ℕ) → h.tag ≡ 2 → head_at bs at ≡ Ok h
-    → place_at bs at h ≡ Ok (record { entry = of_repeater r; next = next }) → length c.places < 256 → is_ok (place_check r) ≡ true
+    → place_at bs at h ≡ Ok (record { entry = of_repeater r; next = next }) → length c.places < MOST_DRAFT_PLACES → is_ok (place_check r) ≡ true
     → turn_of bs (state phase.Places at) c ≡ Ok (to phase.Places next (with_places c (of_repeater r ∷ [])))
 place_entered bs at c h r next tag found read few good =
     turn_by bs (state phase.Places at) c h found
     ∙ ap (λ t. move_of phase.Places bs at (head t h.length) c) tag
-    ∙ ap (λ t. then (place_at bs at (head t h.length)) (λ p. then (located (add_place c p.entry.repeater) at) (λ d. Ok (to phase.Places p.next d)))) (sym tag)
-    ∙ ap (λ x. then x (λ p. then (located (add_place c p.entry.repeater) at) (λ d. Ok (to phase.Places p.next d)))) read
-    ∙ ap (λ x. then (located x at) (λ d. Ok (to phase.Places next d))) (place_taken c r few good)
+    ∙ ap (λ t. then (place_at bs at (head t h.length)) (λ p. then (with_place (add_place c p.entry.repeater) at) (λ d. Ok (to phase.Places p.next d)))) (sym tag)
+    ∙ ap (λ x. then x (λ p. then (with_place (add_place c p.entry.repeater) at) (λ d. Ok (to phase.Places p.next d)))) read
+    ∙ ap (λ x. then (with_place x at) (λ d. Ok (to phase.Places next d))) (place_taken c r few good)
 
 turn_place : (bs : List ℕ) (at : ℕ) (ys : List ℕ) (c : Contents) (r : Option ℕ) (next : ℕ) → Here bs at (repeater_field r ++ ys) → next ≡ at + length (repeater_field r)
-    → length c.places < 256 → is_ok (place_check r) ≡ true → turn_of bs (state phase.Places at) c ≡ Ok (to phase.Places next (with_places c (of_repeater r ∷ [])))
+    → length c.places < MOST_DRAFT_PLACES → is_ok (place_check r) ≡ true → turn_of bs (state phase.Places at) c ≡ Ok (to phase.Places next (with_places c (of_repeater r ∷ [])))
 turn_place bs at ys c None next h n few good =
     place_entered bs at c (head 2 0) None next refl (head_here bs at 2 0 ys h) (ap (λ m. Ok (record { entry = of_repeater None; next = m })) (sym n)) few good
 turn_place bs at ys c (Some p) next h n few good =
@@ -152,7 +153,7 @@ Late phase.Ways = Unit {0}
 Late phase.Ended = ⊥
 
 late_way : (p : Phase) (bs : List ℕ) (at n : ℕ) (c : Contents) → Late p
-    → move_of p bs at (head 3 n) c ≡ then (way_at bs at (head 3 n)) (λ w. then (located (add_way c w.entry) at) (λ d. Ok (to phase.Ways w.next d)))
+    → move_of p bs at (head 3 n) c ≡ then (way_at bs at (head 3 n)) (λ w. then (with_place (add_way c w.entry) at) (λ d. Ok (to phase.Ways w.next d)))
 late_way phase.Head bs at n c l = absurd l
 late_way phase.Places bs at n c l = refl
 late_way phase.Ways bs at n c l = refl
@@ -183,15 +184,15 @@ abbrev pub way_record : WayEntry → ℕ → Record WayEntry
 way_record w n = record { entry = w; next = n }
 
 turn_way : (p : Phase) (bs : List ℕ) (at : ℕ) (ys : List ℕ) (c : Contents) (w : WayEntry) → Late p → Here bs at (way_field w ++ ys)
-    → length c.ways < 1024 → is_ok (way_check (length c.places) w) ≡ true → turn_of bs (state p at) c ≡ Ok (to phase.Ways (at + 15) (with_ways c (w ∷ [])))
+    → length c.ways < MOST_DRAFT_WAYS → is_ok (way_check (length c.places) w) ≡ true → turn_of bs (state p at) c ≡ Ok (to phase.Ways (at + 15) (with_ways c (w ∷ [])))
 turn_way p bs at ys c w late h few good =
     let body = body_here bs at 3 12 (drop 3 (way_field w) ++ ys) h (omega arith) in
     let behind : at + 3 + 12 ≡ at + 15 = omega arith in
     turn_by bs (state p at) c (head 3 12) (head_here bs at 3 12 (drop 3 (way_field w) ++ ys) h)
     ∙ late_way p bs at 12 c late
-    ∙ ap (λ x. then (then x (λ next. Ok (way_record (way_in bs (at + 3)) next))) (λ v. then (located (add_way c v.entry) at) (λ d. Ok (to phase.Ways v.next d)))) body
-    ∙ ap (λ v. then (located (add_way c v) at) (λ d. Ok (to phase.Ways (at + 3 + 12) d))) (way_back bs at w ys h)
-    ∙ ap (λ x. then (located x at) (λ d. Ok (to phase.Ways (at + 3 + 12) d))) (way_taken c w few good)
+    ∙ ap (λ x. then (then x (λ next. Ok (way_record (way_in bs (at + 3)) next))) (λ v. then (with_place (add_way c v.entry) at) (λ d. Ok (to phase.Ways v.next d)))) body
+    ∙ ap (λ v. then (with_place (add_way c v) at) (λ d. Ok (to phase.Ways (at + 3 + 12) d))) (way_back bs at w ys h)
+    ∙ ap (λ x. then (with_place x at) (λ d. Ok (to phase.Ways (at + 3 + 12) d))) (way_taken c w few good)
     ∙ ap (λ n. Ok (to phase.Ways n (with_ways c (w ∷ [])))) behind
 
 turn_end : (p : Phase) (bs : List ℕ) (at : ℕ) (c : Contents) → Late p → Here bs at end_field → turn_of bs (state p at) c ≡ Ok (to phase.Ended (at + 3 + 0) c)
@@ -205,16 +206,16 @@ turn_end p bs at c late h =
     ∙ ap (λ x. then (cond x (fault BytesBehind (at + 3 + 0)) (Ok (at + 3 + 0))) (λ next. Ok (to phase.Ended next c))) whole
 
 -- one turn, and the end of all turns
-walk_on : (n : ℕ) (bs : List ℕ) (s : State) (c : Contents) (t : Turned) → ended s.phase ≡ false → turn_of bs s c ≡ Ok t → walk (suc n) bs s c ≡ walk n bs t.state t.entered
+walk_on : (n : ℕ) (bs : List ℕ) (s : State) (c : Contents) (t : Turn) → is_ended s.phase ≡ false → turn_of bs s c ≡ Ok t → walk (suc n) bs s c ≡ walk n bs t.state t.draft
 unfolding walk
 walk_on n bs s c t e turned =
-    ap (λ b. cond b (Ok c) (then (turn_of bs s c) (λ t. walk n bs t.state t.entered))) e ∙ ap (λ r. then r (λ t. walk n bs t.state t.entered)) turned
+    ap (λ b. cond b (Ok c) (then (turn_of bs s c) (λ t. walk n bs t.state t.draft))) e ∙ ap (λ r. then r (λ t. walk n bs t.state t.draft)) turned
 
 walk_ended : (n : ℕ) (bs : List ℕ) (at : ℕ) (c : Contents) → walk (suc n) bs (state phase.Ended at) c ≡ Ok c
 unfolding walk
 walk_ended n bs at c = refl
 
-late_open : (p : Phase) → Late p → ended p ≡ false
+late_open : (p : Phase) → Late p → is_ended p ≡ false
 late_open phase.Head l = absurd l
 late_open phase.Places l = refl
 late_open phase.Ways l = refl
@@ -222,7 +223,7 @@ late_open phase.Ended l = absurd l
 
 -- the ways and the end are read as they were written
 reads_ways : (ws : List WayEntry) (n : ℕ) (p : Phase) (bs : List ℕ) (at : ℕ) (c : Contents) → Late p → Here bs at (flat_map way_field ws ++ end_field)
-    → length (flat_map way_field ws ++ end_field) < n → length c.ways + length ws ≤ 1024 → good_ways (length c.places) ws ≡ true
+    → length (flat_map way_field ws ++ end_field) < n → length c.ways + length ws ≤ MOST_DRAFT_WAYS → good_ways (length c.places) ws ≡ true
     → walk n bs (state p at) c ≡ Ok (with_ways c ws)
 reads_ways ws zero p bs at c late h fuel few good = absurd (omega arith)
 reads_ways [] (suc zero) p bs at c late h fuel few good = absurd (omega arith)
@@ -247,8 +248,8 @@ field_some (Some p) = omega arith
 -- so are the places before them
 reads_places : (ps : List Place) (ws : List WayEntry) (n : ℕ) (bs : List ℕ) (at : ℕ) (c : Contents)
     → Here bs at (flat_map place_field ps ++ (flat_map way_field ws ++ end_field)) → length (flat_map place_field ps ++ (flat_map way_field ws ++ end_field)) < n
-    → length c.places + length ps ≤ 256 → good_places ps ≡ true
-    → length c.ways + length ws ≤ 1024 → good_ways (length c.places + length ps) ws ≡ true
+    → length c.places + length ps ≤ MOST_DRAFT_PLACES → good_places ps ≡ true
+    → length c.ways + length ws ≤ MOST_DRAFT_WAYS → good_ways (length c.places + length ps) ws ≡ true
     → walk n bs (state phase.Places at) c ≡ Ok (record { places = c.places ++ ps; ways = c.ways ++ ws })
 reads_places [] ws n bs at c h fuel few good few_ways ways_are_good =
     let same : length c.places + 0 ≡ length c.places = omega arith in
@@ -272,7 +273,7 @@ reads_places (p ∷ ps) ws (suc n) bs at c h fuel few good few_ways ways_are_goo
     ∙ ap (λ x. Ok (record { places = x; ways = c.ways ++ ws })) (append_assoc c.places (p ∷ []) ps)
 
 -- the whole file
-pub reads_back : (c : Contents) → length c.places ≤ 256 → good_places c.places ≡ true → length c.ways ≤ 1024 → good_ways (length c.places) c.ways ≡ true
+pub reads_back : (c : Contents) → length c.places ≤ MOST_DRAFT_PLACES → good_places c.places ≡ true → length c.ways ≤ MOST_DRAFT_WAYS → good_ways (length c.places) c.ways ≡ true
     → decode (file_of c) ≡ Ok c
 reads_back c few good few_ways ways_are_good =
     let bs = file_of c in

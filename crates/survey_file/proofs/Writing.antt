@@ -5,14 +5,15 @@ use Rattle.std.proofs.lemmas.List.{append-nil, append_assoc, length-append}
 use Rattle.subject.specs.declared.refusal.Refusal.{Refusal}
 use Rattle.survey_file.proofs.Answering.{ok_same}
 use Rattle.survey_file.specs.Pieces.{put_answer, put_bytes}
-use Rattle.survey_file.proofs.Pieces.{placed_fits, over_length, over_more, Front, front_first, front_fits, front_more}
+use Rattle.survey_file.proofs.Pieces.{put_answer-fits, length-put_bytes, put_bytes-put_bytes, Front, front_first, front_fits, front_more}
 use Rattle.survey_file.proofs.Pieces.{not_refused as refused-not}
 use Rattle.survey.specs.declared.entry.Place.{Place}
 use Rattle.survey.specs.declared.entry.WayEntry.{WayEntry}
 use Rattle.survey.specs.Contents.{Contents}
 use Rattle.survey.specs.Checks.{good_way, good_ways}
-use Rattle.survey.proofs.Good.{cond_first, cond_second, way_passed, way_loss, letter_small}
-use Rattle.survey_file.specs.Encode.{head_field, place_field, way_field, letter_fits, end_field, file_of}
+use Rattle.survey.specs.PassedChecks.{cond_first, cond_second, way_passed, way_loss, letter_small}
+use Rattle.survey_file.specs.declared.writer.TheConstants.{HEAD_LENGTH, WAY_LENGTH, END_LENGTH}
+use Rattle.survey_file.specs.Encode.{head_field, place_field, way_field, HasByteLetter, end_field, file_of}
 
 joined_suc : {X : Type 0} (f : X → List ℕ) (xs : List X) (i : ℕ) (x : X) → slice_get xs i ≡ Some x → flat_map f (take (suc i) xs) ≡ flat_map f (take i xs) ++ f x
 joined_suc f [] i x h = let z : ◌≡◌ {A = ℕ} 0 1 = cc in absurd (omega arith)
@@ -23,11 +24,11 @@ joined_suc f (y ∷ xs) (suc i) x h = ap (λ ys. f y ++ ys) (joined_suc f xs i x
 pub joined_next : {X : Type 0} (f : X → List ℕ) (xs : List X) (i : ℕ) (x : X) → Some x ≡ slice_get xs i → flat_map f (take (i + 1) xs) ≡ flat_map f (take i xs) ++ f x
 joined_next f xs i x h = ap (λ n. flat_map f (take n xs)) (add-one i) ∙ joined_suc f xs i x (sym h)
 
-pub ways_long : (ws : List WayEntry) → length (flat_map way_field ws) ≡ 15 * length ws
+pub ways_long : (ws : List WayEntry) → length (flat_map way_field ws) ≡ WAY_LENGTH * length ws
 ways_long [] = refl
 ways_long (w ∷ ws) = let h = ways_long ws in omega arith
 
-pub file_long : (c : Contents) → length (file_of c) ≡ 8 + length (flat_map place_field c.places) + 15 * length c.ways
+pub file_long : (c : Contents) → length (file_of c) ≡ HEAD_LENGTH + END_LENGTH + length (flat_map place_field c.places) + WAY_LENGTH * length c.ways
 file_long c =
     let a = length-append (flat_map place_field c.places) (flat_map way_field c.ways ++ end_field) in
     let b = length-append (flat_map way_field c.ways) end_field in
@@ -35,7 +36,7 @@ file_long c =
     omega arith
 
 -- the letter of a way that stands in a survey has passed the checks of the draft, so it is a byte
-pub letters_fit : (n : ℕ) (ws : List WayEntry) → good_ways n ws ≡ true → All letter_fits ws
+pub letters_fit : (n : ℕ) (ws : List WayEntry) → good_ways n ws ≡ true → All HasByteLetter ws
 letters_fit n [] good k d below = absurd (omega arith)
 letters_fit n (w ∷ ws) good zero d below =
     let cable = way_loss n w (way_passed n w (cond_first (good_way n w) (good_ways n ws) good)) in
@@ -62,7 +63,7 @@ module _ {X : Type 0} (f : X → List ℕ) (xs : List X) (before : List ℕ) (st
   same_length : length out ≡ length before
   same_length =
       let few = joined_front f xs i in
-      ap length so_far.bytes ∙ over_length before start (flat_map f (take i xs)) (omega arith)
+      ap length so_far.bytes ∙ length-put_bytes before start (flat_map f (take i xs)) (omega arith)
 
   -- there is room for the next field
   pub put_fits : (x : X) → Some x ≡ slice_get xs i → at + length (f x) ≤ length out
@@ -79,7 +80,7 @@ module _ {X : Type 0} (f : X → List ℕ) (xs : List X) (before : List ℕ) (st
 
   pub put_more : (x : X) (next : ℕ) (out' : List ℕ) → Some x ≡ slice_get xs i → Ok next ≡ put_answer out at (f x) → out' ≡ put_bytes out at (f x) → Put f xs before start (i + 1) next out'
   put_more x next out' h answered is =
-      let behind = ok_same next (at + length (f x)) (answered ∙ placed_fits out at (f x) (put_fits x h)) in
+      let behind = ok_same next (at + length (f x)) (answered ∙ put_answer-fits out at (f x) (put_fits x h)) in
       let fields = joined_next f xs i x h in
       let more = ap length fields ∙ length-append (flat_map f (take i xs)) (f x) in
       let few = joined_front f xs (i + 1) in
@@ -87,7 +88,7 @@ module _ {X : Type 0} (f : X → List ℕ) (xs : List X) (before : List ℕ) (st
       let room-so-far : start + length (flat_map f (take i xs) ++ f x) ≤ length before = omega (arith, ap length fields) in
       record {
         next = omega arith;
-        bytes = is ∙ ap (λ o. put_bytes o at (f x)) so_far.bytes ∙ over_more before start at (flat_map f (take i xs)) (f x) here room-so-far ∙ ap (put_bytes before start) (sym fields);
+        bytes = is ∙ ap (λ o. put_bytes o at (f x)) so_far.bytes ∙ put_bytes-put_bytes before start at (flat_map f (take i xs)) (f x) here room-so-far ∙ ap (put_bytes before start) (sym fields);
       }
 
 -- bytes with room for the file of contents, whose places and ways were lent as those lists
@@ -140,7 +141,7 @@ module _ (before : List ℕ) (ps : List Place) (ws : List WayEntry) (c : Content
       let together = length-append up_to_ways end_field in
       let is_whole = ap length whole in
       let same : a + 3 ≡ 0 + length (file_of c) = omega arith in
-      placed_fits o a end_field (front_fits before up_to_ways end_field a o room_parts.2 f) ∙ ap Ok same ∙ sym (placed_fits before 0 (file_of c) (omega (arith, r.room)))
+      put_answer-fits o a end_field (front_fits before up_to_ways end_field a o room_parts.2 f) ∙ ap Ok same ∙ sym (put_answer-fits before 0 (file_of c) (omega (arith, r.room)))
 
   pub end_bytes : (a : ℕ) (o : List ℕ) → Front before up_to_ways a o → put_bytes o a end_field ≡ put_bytes before 0 (file_of c)
   end_bytes a o f =

@@ -25,12 +25,12 @@ way_field w =
     ∷ w.metres / 256 ∷ w.metres % 256
     ∷ w.price / 16777216 ∷ w.price / 65536 % 256 ∷ w.price / 256 % 256 ∷ w.price % 256 ∷ []
 
--- a place can always be written; a way where its letter is a byte
-abbrev pub anything : Place → Type 0
-anything p = Unit {0}
+-- a place can always be written, a way where its letter is a byte
+abbrev pub HasField : Place → Type 0
+HasField p = Unit {0}
 
-abbrev pub letter_fits : WayEntry → Type 0
-letter_fits w = w.letter < 256
+abbrev pub HasByteLetter : WayEntry → Type 0
+HasByteLetter w = w.letter < 256
 
 -- tag 4, no body
 abbrev pub end_field : List ℕ
@@ -40,5 +40,5 @@ abbrev pub file_of : Contents → List ℕ
 file_of c = head_field ++ (flat_map place_field c.places ++ (flat_map way_field c.ways ++ end_field))
 
 -- a list of bytes
-abbrev pub Bytes : List ℕ → Type 0
-Bytes bs = (i : ℕ) → i < length bs → slice_index bs i < 256
+abbrev pub IsBytes : List ℕ → Type 0
+IsBytes bs = (i : ℕ) → i < length bs → slice_index bs i < 256

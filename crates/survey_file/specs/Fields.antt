@@ -23,7 +23,9 @@ four_at bs i = two_at bs i * 65536 + two_at bs (i + 2)
 
 -- the head of the field at a place: three bytes are there
 abbrev pub head_at : List ℕ → ℕ → Result Head Fault
-head_at bs at = cond (nat_lt (length bs - at) 3) (fault CutShort at) (Ok (record { tag = slice_index bs at; length = two_at bs (at + 1) }))
+head_at bs at =
+    cond (nat_lt (length bs - at) 3) (fault CutShort at)
+    (Ok (record { tag = slice_index bs at; length = two_at bs (at + 1) }))
 
 -- where the next field begins: the length is the one that the tag has, and then the body is there
 abbrev pub body_at : List ℕ → ℕ → Head → ℕ → Result ℕ Fault
@@ -33,6 +35,6 @@ body_at bs at h wanted =
     (fault WrongLength at)
 
 -- a refusal of the draft, as a fault at the field
-abbrev pub located : {X : Type 0} → Result X Refusal → ℕ → Result X Fault
-located (Ok x) at = Ok x
-located (Err r) at = fault r at
+abbrev pub with_place : {X : Type 0} → Result X Refusal → ℕ → Result X Fault
+with_place (Ok x) at = Ok x
+with_place (Err r) at = fault r at

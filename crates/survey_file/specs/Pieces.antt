@@ -6,8 +6,10 @@ use Rattle.subject.specs.declared.refusal.Refusal.TheVariants.{NoRoom}
 
 -- what is answered
 abbrev pub put_answer : List ℕ → ℕ → List ℕ → Result ℕ Refusal
-put_answer out at piece = cond (nat_le (at + length piece) (length out)) (Ok (at + length piece)) (Err NoRoom)
+put_answer out at piece =
+    cond (nat_le (at + length piece) (length out)) (Ok (at + length piece)) (Err NoRoom)
 
 -- what the bytes are then: those before and behind the piece stay, and all stay where it does not fit
 abbrev pub put_bytes : List ℕ → ℕ → List ℕ → List ℕ
-put_bytes out at piece = cond (nat_le (at + length piece) (length out)) (take at out ++ (piece ++ drop (at + length piece) out)) out
+put_bytes out at piece =
+    cond (nat_le (at + length piece) (length out)) (take at out ++ (piece ++ drop (at + length piece) out)) out

@@ -1,4 +1,4 @@
--- Records of a survey file: what the body of a field says, and where the next field begins. Stands on Fields.
+-- The fields of a survey file by their tags: what a body says, and where the next field begins. Stands on Fields.
 use Rattle.std.specs.Prelude.{ℕ, ◌+◌, cond, List, length, Some, None, Ok, Result, ◌==◌, nat_lt, slice_index}
 use Rattle.subject.specs.declared.refusal.Refusal.TheVariants.{WrongEdition, BytesBehind}
 use Rattle.subject.specs.declared.refusal.Fault.{Fault}
@@ -12,7 +12,8 @@ use Rattle.survey_file.specs.Fields.{fault, two_at, four_at, body_at}
 
 -- two bytes: the edition, which is 1
 abbrev pub edition_at : List ℕ → ℕ → Head → Result ℕ Fault
-edition_at bs at h = then (body_at bs at h 2) (λ next. cond (two_at bs (at + 3) == 1) (Ok next) (fault WrongEdition at))
+edition_at bs at h =
+    then (body_at bs at h 2) (λ next. cond (two_at bs (at + 3) == 1) (Ok next) (fault WrongEdition at))
 
 -- no body is a blank; four bytes are the price of a repeater
 abbrev pub place_at : List ℕ → ℕ → Head → Result (Record Place) Fault
@@ -32,8 +33,10 @@ way_in bs i = record {
 }
 
 abbrev pub way_at : List ℕ → ℕ → Head → Result (Record WayEntry) Fault
-way_at bs at h = then (body_at bs at h 12) (λ next. Ok (record { entry = way_in bs (at + 3); next = next }))
+way_at bs at h =
+    then (body_at bs at h 12) (λ next. Ok (record { entry = way_in bs (at + 3); next = next }))
 
 -- no body, and no byte behind; the place of that fault counts the bytes before the first extra one
 abbrev pub end_at : List ℕ → ℕ → Head → Result ℕ Fault
-end_at bs at h = then (body_at bs at h 0) (λ next. cond (nat_lt next (length bs)) (fault BytesBehind next) (Ok next))
+end_at bs at h =
+    then (body_at bs at h 0) (λ next. cond (nat_lt next (length bs)) (fault BytesBehind next) (Ok next))

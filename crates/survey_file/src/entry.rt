@@ -1,8 +1,7 @@
 // Entries of a file, which are places and ways: what is read of one and entered into a draft, and how one is written.
-ghost use Rattle.std.specs.Prelude.{◌≡◌, ℕ, ◌<◌, ◌≤◌, List, length, Result, Some, IfOk};
+ghost use Rattle.std.specs.Prelude.{◌≡◌, ℕ, List, Result, Some, IfOk};
 ghost use Rattle.subject.specs.declared.refusal.Refusal.{Refusal as Why};
 ghost use Rattle.subject.specs.declared.refusal.Fault.{Fault as Met};
-ghost use Rattle.survey_file.specs.Pieces.{put_answer, put_bytes};
 ghost use Rattle.survey.specs.Contents.{Contents, contents};
 ghost use Rattle.survey.specs.Edits.{add_place, add_way, answer_of, contents_after};
 ghost use Rattle.survey_file.specs.declared.field.Head.{Head as HeadOf};
@@ -10,64 +9,84 @@ ghost use Rattle.survey_file.specs.declared.reader.Phase.{Phase as PhaseOf};
 ghost use Rattle.survey_file.specs.declared.reader.Phase.TheVariants as phases;
 ghost use Rattle.survey_file.specs.declared.reader.State.{State as StateOf};
 ghost use Rattle.survey_file.specs.declared.record.Record.{Record as RecordOf};
+ghost use Rattle.survey_file.specs.InField.{in_field, IsBehind};
 ghost use Rattle.survey_file.specs.Records.{place_at, way_at};
-ghost use Rattle.survey_file.specs.Encode.{repeater_field, place_field, way_field, letter_fits, anything};
+ghost use Rattle.survey_file.specs.Encode.{repeater_field, place_field, way_field, HasField, HasByteLetter};
+ghost use Rattle.survey_file.specs.Pieces.{put_answer, put_bytes};
 
-use crate::field::Field;
+use crate::bytes::put;
+use crate::field::{Field, four_at, two_at};
 use crate::reader::Phase;
 use crate::record::Record;
-use crate::bytes::put;
 use subject::refusal::{Fault, Refusal};
 use survey::draft::Draft;
 use survey::entry::{Place, WayEntry};
 
 pub(crate) trait Entry: Copy {
     // what the field at a place says, by its head
-    ghost said: { List ℕ → ℕ → HeadOf → Result (RecordOf Self) Met };
+    ghost read: { List ℕ → ℕ → HeadOf → Result (RecordOf Self) Met };
 
-    // what a draft contains then
-    ghost entered: { Contents → Self → Result Contents Why };
+    // what a draft contains with it
+    ghost enter: { Contents → Self → Result Contents Why };
 
     // what the reader has come to behind it
-    ghost behind: { PhaseOf };
+    ghost phase: { PhaseOf };
 
     // the bytes of its field
-    ghost written: { Self → List ℕ };
+    ghost bytes: { Self → List ℕ };
 
-    // what has to hold for it to have a field
-    ghost writable: { Self → Type 0 };
+    // it can be written
+    ghost is_writable: { Self → Type 0 };
 
+    // What a field says.
     fn read(field: &Field<'_>) -> Result<Record<Self>, Fault>
-        ensures value { result ≡ said field.now.bytes.now field.now.at field.now.head }
-        ensures goes { IfOk result (λ x. (field.now.at < x.next) × (x.next ≤ length field.now.bytes.now)) };
+        ensures value { result ≡ in_field read field.now }
+        ensures goes { IfOk result (λ x. IsBehind field.now x.next) };
 
+    // The draft has the entry too, or refuses it.
     fn enter(self, draft: &mut Draft) -> Result<usize, Refusal>
-        ensures answer { (s : StateOf) → answer_of s result ≡ answer_of s (entered (contents draft.old) self) }
-        ensures after { contents draft.new ≡ contents_after (contents draft.old) (entered (contents draft.old) self) };
+        ensures answer { (s : StateOf) → answer_of s result ≡ answer_of s (enter (contents draft.old) self) }
+        ensures after { let c = contents draft.old in contents draft.new ≡ contents_after c (enter c self) };
 
+    // What the reader has come to behind an entry.
     fn phase() -> Phase
-        ensures { result ≡ behind };
+        ensures { result ≡ phase };
 
     // Its field is laid into the bytes at a place.
     fn put(self, out: &mut [u8], at: usize) -> Result<usize, Refusal>
-        requires { writable self }
-        ensures answer { result ≡ put_answer out.old at (written self) }
-        ensures after { out.new ≡ put_bytes out.old at (written self) };
+        requires { is_writable self }
+        ensures answer { result ≡ put_answer out.old at (bytes self) }
+        ensures after { out.new ≡ put_bytes out.old at (bytes self) };
 }
 
 impl Entry for Place {
-    ghost said = { place_at };
+    ghost read = { place_at };
 
-    ghost entered = { λ c p. add_place c p.repeater };
+    ghost enter = { λ c p. add_place c p.repeater };
 
-    ghost behind = { phases.Places };
+    ghost phase = { phases.Places };
 
-    ghost written = { place_field };
+    ghost bytes = { place_field };
 
-    ghost writable = { anything };
+    ghost is_writable = { HasField };
 
+    // A place has no body, which is a blank, or a price in four bytes.
     fn read(field: &Field<'_>) -> Result<Record<Place>, Fault> {
-        field.place()
+        let body = field.at + 3;
+        if field.head.length == 0 {
+            return Ok(Record {
+                entry: Place { repeater: None },
+                next: body,
+            });
+        }
+        let next = field.check_body(4)?;
+        let price = four_at(field.bytes, body);
+        Ok(Record {
+            entry: Place {
+                repeater: Some(price),
+            },
+            next,
+        })
     }
 
     fn enter(self, draft: &mut Draft) -> Result<usize, Refusal> {
@@ -87,18 +106,30 @@ impl Entry for Place {
 }
 
 impl Entry for WayEntry {
-    ghost said = { way_at };
+    ghost read = { way_at };
 
-    ghost entered = { add_way };
+    ghost enter = { add_way };
 
-    ghost behind = { phases.Ways };
+    ghost phase = { phases.Ways };
 
-    ghost written = { way_field };
+    ghost bytes = { way_field };
 
-    ghost writable = { letter_fits };
+    ghost is_writable = { HasByteLetter };
 
+    // A way has twelve bytes: from, to, letter, grade, metres and price.
     fn read(field: &Field<'_>) -> Result<Record<WayEntry>, Fault> {
-        field.way()
+        let next = field.check_body(12)?;
+        let bytes = field.bytes;
+        let body = field.at + 3;
+        let entry = WayEntry {
+            from: two_at(bytes, body),
+            to: two_at(bytes, body + 2),
+            letter: bytes[body + 4] as char,
+            grade: bytes[body + 5],
+            metres: two_at(bytes, body + 6),
+            price: four_at(bytes, body + 8),
+        };
+        Ok(Record { entry, next })
     }
 
     fn enter(self, draft: &mut Draft) -> Result<usize, Refusal> {
@@ -124,7 +155,7 @@ fn price_bytes(price: u32) -> [u8; 7]
 
 // The field of a way.
 fn way_bytes(way: WayEntry) -> [u8; 15]
-    requires { letter_fits way }
+    requires { HasByteLetter way }
     ensures { result ≡ way_field way }
 {
     let from = way.from.to_be_bytes();

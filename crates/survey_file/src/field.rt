@@ -1,11 +1,10 @@
 // Fields: a tag in one byte, a length in two, and a body of that length. Numbers have their high byte first.
-ghost use Rattle.std.specs.Prelude.{◌≡◌, ◌+◌, ◌<◌, ◌≤◌, length, OnOk};
+ghost use Rattle.std.specs.Prelude.{◌≡◌, ◌+◌, ◌≤◌, length, OnOk};
 ghost use Rattle.survey_file.specs.Fields.{two_at, four_at, head_at, body_at, fault_of};
 
 use subject::refusal::{Fault, Refusal};
 
-// The first three bytes of a field. (The tag stays a byte: the reader matches it together with its phase, which docs/DECISIONS.md
-// tells under Forms, and every byte that is none of the four is refused alike.)
+/// The first three bytes of a field: its tag, and how many bytes its body has.
 #[derive(Clone, Copy)]
 pub struct Head {
     pub tag: u8,
@@ -66,7 +65,7 @@ impl Field<'_> {
         }
     }
 
-    // Whether the field has the length that is wanted, and its body is there; where the next field begins.
+    // Where the next field begins. The field has the length that is wanted, and its body is there.
     pub(crate) fn check_body(&self, wanted: usize) -> Result<usize, Fault>
         ensures { result ≡ body_at self.now.bytes.now self.now.at self.now.head wanted }
     {

@@ -1,4 +1,4 @@
-// Survey files: fields of a tag, a length and a body, read whole or refused by number and byte place, and written back.
+//! Survey files: fields of a tag, a length and a body, read whole or refused by number and byte place, and written.
 #![tactic(auto)]
 
 pub mod bytes;

@@ -1,45 +1,62 @@
-// The file of a sealed survey, written into bytes that the caller lends.
 ghost use Rattle.std.specs.Prelude.{◌≡◌, ◌+◌, ◌≤◌, length, Ok};
 ghost use Rattle.std.specs.List.{All, flat_map};
-ghost use Rattle.survey_file.specs.Pieces.{put_answer, put_bytes};
 ghost use Rattle.survey.specs.Sealing.{sealed_contents};
 ghost use Rattle.survey_file.specs.Decode.{decode};
 ghost use Rattle.survey_file.specs.Encode.{place_field, file_of};
+ghost use Rattle.survey_file.specs.Pieces.{put_answer, put_bytes};
 
-use crate::entry::Entry;
 use crate::bytes::put;
+use crate::entry::Entry;
 use subject::refusal::Refusal;
+use survey::draft::{MOST_DRAFT_PLACES, MOST_DRAFT_WAYS};
 use survey::entry::Place;
 use survey::sealed::Sealed;
 
-// How many bytes the field of a place has. (A blank and a price are the two cases of the format.)
+// How many bytes each field has: the head, a place with no repeater and one with a price, a way, and the end.
+const HEAD_LENGTH: usize = 5;
+
+const BLANK_LENGTH: usize = 3;
+
+const PRICE_LENGTH: usize = 7;
+
+const WAY_LENGTH: usize = 15;
+
+const END_LENGTH: usize = 3;
+
+/// How many bytes the longest file has.
+pub const LONGEST_FILE: usize = HEAD_LENGTH
+    + MOST_DRAFT_PLACES * PRICE_LENGTH
+    + MOST_DRAFT_WAYS * WAY_LENGTH
+    + END_LENGTH;
+
+// How many bytes the field of a place has.
 fn place_length(place: &Place) -> usize
     ensures { result ≡ length (place_field place.now) }
 {
     match place.repeater {
-        None => 3,
-        Some(_) => 7,
+        None => BLANK_LENGTH,
+        Some(_) => PRICE_LENGTH,
     }
 }
 
-// How many bytes the file of a survey has: 17,160 at most.
+/// How many bytes the file of a survey has.
 pub fn file_length(survey: &Sealed) -> usize
     ensures value { result ≡ length (file_of (sealed_contents survey.now)) }
-    ensures bound { result ≤ 17160 }
+    ensures bound { result ≤ LONGEST_FILE }
 {
-    let mut length = 8;
+    let mut length = HEAD_LENGTH + END_LENGTH;
     for place in survey.all_places() {
         length += place_length(place);
     }
-    length + 15 * survey.ways()
+    length + WAY_LENGTH * survey.ways()
 }
 
 // The fields of all entries, one behind the other.
 fn put_all<E: Entry>(entries: &[E], out: &mut [u8], start: usize) -> Result<usize, Refusal>
-    requires writable { All E.Entry.writable entries.now }
-    requires room { start + length (flat_map E.Entry.written entries.now) ≤ length out.old }
-    ensures answer { result ≡ Ok (start + length (flat_map E.Entry.written entries.now)) }
-    ensures after { out.new ≡ put_bytes out.old start (flat_map E.Entry.written entries.now) }
+    requires writable { All E.Entry.is_writable entries.now }
+    requires room { start + length (flat_map E.Entry.bytes entries.now) ≤ length out.old }
+    ensures answer { result ≡ Ok (start + length (flat_map E.Entry.bytes entries.now)) }
+    ensures after { out.new ≡ put_bytes out.old start (flat_map E.Entry.bytes entries.now) }
 {
     let mut at = start;
     for entry in entries {
@@ -61,8 +78,10 @@ fn put_file(survey: &Sealed, out: &mut [u8]) -> Result<usize, Refusal>
     put(out, after_ways, &[4, 0, 0])
 }
 
-// The file of a survey is written to the front of the bytes, and its length answered. Bytes behind it stay; where it
-// does not fit, all do. What is written reads as the survey.
+/// Writes the file of a survey to the front of the bytes; its length.
+///
+/// The bytes behind it stay. Refused with 18 where the file does not fit, and all bytes stay. What is written reads as
+/// the survey.
 pub fn write(survey: &Sealed, out: &mut [u8]) -> Result<usize, Refusal>
     ensures answer { result ≡ put_answer out.old 0 (file_of (sealed_contents survey.now)) }
     ensures after { out.new ≡ put_bytes out.old 0 (file_of (sealed_contents survey.now)) }

@@ -12,8 +12,8 @@ returns-clause-state g c =
     let before = contents c.args.draft.now in
     let at = c.args.field.now.at in
     let read = c.in_ok-record.record in
-    let here = behind g.E.Entry.entered before g.E.Entry.behind at read in
+    let here = behind g.E.Entry.enter before g.E.Entry.phase at read in
     let faulted : MatchResult {T = ℕ} {E = Refusal} c.enter.result (λ n. c.map_err.result ≡ Ok n) (λ w. c.map_err.result ≡ Err (fault_of w at)) =
     MatchResult-weaker {X = ℕ} {Y = Refusal} c.enter.result c.map_err.ensures.cases (λ n e. e) (λ w e. search rules) in
-    entry_moved g.E.Entry.entered before g.E.Entry.behind at _ read c.phase.result c.enter.result c.map_err.result c.and.result c.in_ok-record.ensures.value
+    entry_moved g.E.Entry.enter before g.E.Entry.phase at _ read c.phase.result c.enter.result c.map_err.result c.and.result c.in_ok-record.ensures.value
     c.phase.ensures (c.enter.ensures.answer here) faulted c.and.ensures

@@ -7,5 +7,10 @@ pub invariant_of-self-2-clause-good_ways : goal.invariant_of-self-2-clause-good_
 invariant_of-self-2-clause-good_ways c =
     let before = c.args.self.now in
     let ways = before.table.ways in
-    let at = lent_at (λ w. w.now) (vec_items ways) (vec_len ways) c.args.number c.way_mut.result c.in_ok-way.way ways.ok.0 c.way_mut.ensures.finds_facts c.in_ok-way.ensures.ok_part in
-    ways_priced (vec_len before.places) (vec_items ways) c.args.number c.in_ok-way.way.now c.args.price before.good_ways at (ap is_ok (sym (c.in_ok-check_price.ensures)))
+    let lent = c.way_mut in
+    let way = c.in_ok-way.way in
+    let at =
+    lent_at (λ w. w.now) (vec_items ways) (vec_len ways) c.args.number lent.result way ways.ok.0
+    lent.ensures.found lent.ensures.way c.in_ok-way.ensures.ok_part in
+    let dear = ap is_ok (sym c.in_ok-check_price.ensures) in
+    ways_priced (vec_len before.places) (vec_items ways) c.args.number way.now c.args.price before.good_ways at dear

@@ -7,5 +7,5 @@ use Rattle.survey_file.proofs.reader.FileReader.read.Goals as goal
 
 pub returns-clause-written : goal.returns-clause-written
 returns-clause-written c =
-    only_file c.args.bytes.now (contents c.fill.new.draft) (λ i below. (c.type_inv.bytes i).fits) c.in_ok-fill.ensures.draft
+    only_file c.args.bytes.now (contents c.fill.new.draft) (λ i below. (c.type_inv.bytes i).fits) c.in_default.ensures.draft
     ∙ ap (λ d. file_of (contents d)) (sym c.swap.ensures.y_after)
