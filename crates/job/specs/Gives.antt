@@ -1,7 +1,7 @@
 -- What is written beside a call on a job, from what the call gave. Stands on nothing but the answers.
 use Rattle.std.specs.Prelude.{Ok, Err, Result}
 use Rattle.subject.specs.declared.refusal.Refusal.{Refusal}
-use Rattle.planner.specs.declared.planned.Planned.{Planned}
+use Rattle.planner.specs.declared.plan.Planned.{Planned}
 use Rattle.job.specs.declared.list.Answer.{Answer}
 use Rattle.job.specs.declared.list.Answer.TheVariants.{Done, Found, Refused}
 

@@ -34,6 +34,10 @@ pub record JobState (C : Type 0) : Type 0 where
   pub below : SiteMeaning C
   pub book : ℕ → Bool
 
+-- the same job with another book
+abbrev pub with_book : {C : Type 0} → JobState C → (ℕ → Bool) → JobState C
+with_book J book = record { kind = J.kind; below = J.below; book = book }
+
 -- a site below, with a book
 abbrev pub state_over : {S C : Type 0} → SiteGhosts S C → ChargeGhosts C → S → (ℕ → Bool) → JobState C
 state_over s c below book = record { kind = kind_of c; below = s.meaning below; book = book }

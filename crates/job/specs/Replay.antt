@@ -18,17 +18,17 @@ use Rattle.job.specs.declared.list.Answer.{Answer}
 use Rattle.job.specs.declared.list.Entry.{Entry}
 use Rattle.job.specs.Book.{closing, reopening, after_call, after_calls}
 use Rattle.job.specs.Gives.{of_change, of_plan}
-use Rattle.job.specs.Jobs.{JobState, problem_on}
+use Rattle.job.specs.Jobs.{JobState, problem_on, with_book}
 
 abbrev pub calls_of : {C : Type 0} → List (Entry C) → List Call
 calls_of entries = map (λ e. e.call) entries
 
 -- the job after one call, and after a list of calls, one by one
 abbrev pub state_after : {C : Type 0} → JobState C → Call → JobState C
-state_after J c = record { kind = J.kind; below = J.below; book = after_call J.below.ways J.book c }
+state_after J c = with_book J (after_call J.below.ways J.book c)
 
 abbrev pub state_after_all : {C : Type 0} → JobState C → List Call → JobState C
-state_after_all J cs = record { kind = J.kind; below = J.below; book = after_calls J.below.ways J.book cs }
+state_after_all J cs = with_book J (after_calls J.below.ways J.book cs)
 
 -- one listed call: a closing or a reopening gave what the book says, and what is lent is as it was; a plan gave what a plan
 -- promises over the ways that are open below and not in the book

@@ -10,8 +10,8 @@ use Rattle.job.specs.declared.list.Entry.{Entry}
 use Rattle.job.specs.Replay.{calls_of}
 use Rattle.job.specs.declared.script.Script.{Script}
 use Rattle.job.specs.declared.script.Trouble.{Trouble}
-use Rattle.job.specs.declared.script.Trouble.TheVariants as trouble
 use Rattle.job.specs.Texts.{NoCall, lines_text, TextOf, FirstLine}
+use Rattle.job.specs.declared.script.Trouble.TheVariants as trouble
 
 -- none of the entries is tried yet
 abbrev pub AllUntried : List (Entry Money) → Type 0

@@ -13,7 +13,7 @@ use Rattle.subject.specs.declared.run.Request.{Request}
 use Rattle.subject.specs.Sites.{IsBounded}
 use Rattle.subject.specs.Runs.{IsLeast, NoneTwice}
 use Rattle.search.specs.Checks.{BoundInRange}
-use Rattle.search.proofs.Stopping.{stopped_fails, stopped_other}
+use Rattle.search.proofs.Stopping.{cause_fails, cause_other}
 use Rattle.search.specs.Lends.{LentMemory, lent_memory}
 use Rattle.search.specs.declared.memory.Memory.{Memory}
 use Rattle.survey.specs.SurveySite.{money_site}
@@ -66,8 +66,8 @@ module _ (s : Sealed) (q : Request) where
       → PlanRefused (money_site (sealed_contents s)) q many h h' e → Unsolved (sealed_contents s) q (length h.cells) many (length h.run) e
   refused_unsolved many h h' e refused = elim refused [
     | inl a ↦ record {
-      none = λ is. absurd (stopped_other _ q (length h.cells) many (length h.run) e a.0 is);
-      only = λ p. absurd (stopped_fails _ q (length h.cells) many (length h.run) e a.0 p);
+      none = λ is. absurd (cause_other _ q (length h.cells) many (length h.run) e a.0 is);
+      only = λ p. absurd (cause_fails _ q (length h.cells) many (length h.run) e a.0 p);
     }
     | inr b ↦ record { none = λ is other f. b.2 other (feasible_lawful (sealed_contents s) q other f); only = λ p. b.0 }
   ]

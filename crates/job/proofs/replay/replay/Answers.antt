@@ -1,15 +1,15 @@
 -- The job is new, so the book begins empty; after the listed calls the job has closed just what stands in the book, so the plan
 -- made next is one over the site below with the ways of the book shut, and the law follows from the promise of a plan.
 use Rattle.std.proofs.Common.{◌≡◌, ℕ, Bool, length, ap, ◌∙◌, subst}
-use mathlib.Core.Path.{fun_ext}
 use Rattle.subject.specs.Sites.{SiteMeaning}
-use Rattle.subject.specs.Charges.{kind_of}
-use Rattle.search.specs.Lends.{lent_memory}
+use Rattle.subject.specs.Problems.{kind_of}
+use Rattle.search.specs.Memories.{lent_memory}
 use Rattle.planner.specs.Outcome.{PlanOutcome}
 use Rattle.job.specs.Book.{empty_book, after_calls, book_for}
 use Rattle.job.specs.Jobs.{site_below, closed_by, shutting}
 use Rattle.job.specs.Replay.{calls_of, CallsOutcome}
 use Rattle.job.proofs.Lists.{law_holds, tries_many}
+use mathlib.Core.Path.{fun_ext}
 use Rattle.job.proofs.replay.replay.Goals as goal
 
 pub returns-clause-replayed : goal.returns-clause-replayed

@@ -1,14 +1,14 @@
 -- Each turn tries one more call over the book that the calls before it left; after the last all have been tried.
 use Rattle.std.proofs.Common.{◌≡◌, ℕ, get_or, ◌∙◌, subst, arith}
-use lib.Seq.{map-set}
-use Rattle.subject.specs.Charges.{kind_of}
+use Rattle.subject.specs.Problems.{kind_of}
 use Rattle.job.specs.declared.list.Entry.{Entry}
-use Rattle.search.specs.Lends.{lent_memory}
+use Rattle.search.specs.Memories.{lent_memory}
 use Rattle.job.specs.Book.{after_call}
 use Rattle.job.specs.Jobs.{site_below, closed_by}
 use Rattle.job.specs.Replay.{calls_of, CallOutcome}
 use Rattle.search.proofs.Tables.{nth_column, same_lenders}
 use Rattle.job.proofs.Lists.{tried_next, set_same}
+use lib.Seq.{map-set}
 use Rattle.job.proofs.replay.try_all.Goals as goal
 
 pub loop-entry-preserved : goal.loop-entry-preserved

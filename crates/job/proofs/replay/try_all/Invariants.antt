@@ -1,8 +1,8 @@
 -- The calls are as they were; the job stands over the same site and has closed what stands in the book for the calls tried so
 -- far; and those have been tried.
 use Rattle.std.proofs.Common.{◌≡◌, take}
-use Rattle.subject.specs.Charges.{kind_of}
-use Rattle.search.specs.Lends.{lent_memory, SameLenders}
+use Rattle.subject.specs.Problems.{kind_of}
+use Rattle.search.specs.Memories.{lent_memory, SameLenders}
 use Rattle.job.specs.Book.{after_calls}
 use Rattle.job.specs.Jobs.{site_below, closed_by}
 use Rattle.job.specs.Replay.{calls_of, CallsOutcome}
