@@ -5,10 +5,12 @@ use Rattle.std.specs.List.{slice_get}
 use Rattle.subject.specs.declared.refusal.Refusal.{Refusal}
 use Rattle.subject.specs.declared.money.Money.{Money}
 use Rattle.subject.specs.declared.disturbance.Disturbance.{Disturbance}
-use Rattle.subject.specs.Moneys.{of_cents}
+use Rattle.subject.specs.Moneys.{money, of_cents}
 use Rattle.subject.specs.Grades.{of_grade}
 use Rattle.subject.specs.declared.way.Way.{Way}
+use Rattle.subject.specs.Problems.{Problem}
 use Rattle.subject.specs.Sites.{SiteMeaning}
+use Rattle.subject.specs.declared.run.Request.{Request}
 use Rattle.survey.specs.Card.{loss_of}
 use Rattle.survey.specs.declared.entry.Place.{Place}
 use Rattle.survey.specs.declared.entry.WayEntry.{WayEntry}
@@ -61,3 +63,7 @@ money_site = survey_site (λ w. of_cents w.price) of_cents
 -- for disturbance a way charges its grade, and a repeater grade 0
 abbrev pub disturbance_site : Contents → SiteMeaning Disturbance
 disturbance_site = survey_site (λ w. of_grade w.grade) (λ price. of_grade 0)
+
+-- what is asked of a run for money over a survey
+abbrev pub money_problem : Contents → Request → Problem Money
+money_problem c q = record { kind = money; site = money_site c; request = q }
