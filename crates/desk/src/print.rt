@@ -2,7 +2,7 @@
 use subject::money::Money;
 use sheet::print::{print_refusal, print_sheet};
 use job::list::{Answer, Call, Entry};
-use planner::planned::Planned;
+use planner::plan::Planned;
 use subject::refusal::Refusal;
 use subject::run::{Request, Step};
 use std::{fmt, io};

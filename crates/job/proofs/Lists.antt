@@ -4,20 +4,21 @@ use Rattle.std.proofs.Common.{◌≡◌, ℕ, ◌+◌, ◌<◌, Bool, List, [], 
 use Rattle.std.proofs.lemmas.List.{map-append, set-get_or}
 use Rattle.std.proofs.lemmas.Option.{get_or_from_slice_get}
 use Rattle.std.specs.List.{slice_get}
-use Rattle.subject.specs.Charges.{Kind}
 use Rattle.subject.specs.declared.refusal.Refusal.{Refusal}
-use Rattle.subject.specs.declared.run.Request.{Request}
-use Rattle.subject.specs.Sites.{SiteMeaning}
-use Rattle.search.specs.Memories.{LentMemory}
+use Rattle.search.proofs.Stopping.{cause_fails}
+use Rattle.search.specs.Memories.{LentMemory, counts_of}
 use Rattle.planner.specs.Outcome.{PlanOutcome}
 use Rattle.planner.specs.declared.plan.Planned.{Planned}
 use Rattle.job.specs.declared.list.Call.{Call}
 use Rattle.job.specs.declared.list.Call.TheVariants.{Close, Reopen, Plan}
 use Rattle.job.specs.declared.list.Answer.{Answer}
 use Rattle.job.specs.declared.list.Entry.{Entry}
-use Rattle.job.specs.Book.{after_call, after_calls, book_for}
-use Rattle.job.specs.Jobs.{shutting}
-use Rattle.job.specs.Replay.{calls_of, CallOutcome, CallsOutcome, PlanLaw}
+use Rattle.job.specs.Book.{after_call, after_calls}
+use Rattle.job.specs.Replay.{calls_of, CallOutcome, CallsOutcome, PlanLaw, state_after, state_after_all}
+use Rattle.subject.specs.declared.queue.PriorityQueue.{Ghosts as QueueGhosts}
+use Rattle.job.specs.Jobs.{JobState, with_book}
+use Rattle.subject.specs.Problems.{Problem}
+use Rattle.search.specs.declared.check.RowCounts.{RowCounts}
 use mathlib.Core.Path.{fun_ext}
 
 pub after_more : (ways : ℕ) (book : ℕ → Bool) (calls : List Call) (c : Call) → after_calls ways book (calls ++ c ∷ []) ≡ after_call ways (after_calls ways book calls) c
@@ -81,3 +82,11 @@ module _ {C Q : Type 0} (P : Problem C) (q : QueueGhosts Q C) (before h' : LentM
   pub law_holds : (counts : RowCounts) (r : Result (Planned C) Refusal) → counts_of q before ≡ counts → PlanOutcome P q before h' r
       → PlanLaw P counts h'.run r
   law_holds counts r e o = subst (λ (z : RowCounts). PlanLaw P z h'.run r) e (law_here r o)
+
+-- the same numbers of rows are the same counts
+pub counts_same : {C Q : Type 0} (q : QueueGhosts Q C) (h h' : LentMemory C Q) → length h'.cells ≡ length h.cells
+    → q.rows h'.queue ≡ q.rows h.queue → length h'.run ≡ length h.run → counts_of q h' ≡ counts_of q h
+counts_same q h h' a b c =
+    ap (λ (n : ℕ). (let r : RowCounts = record { cells = n; queue = q.rows h'.queue; run = length h'.run } in r)) a
+    ∙ ap (λ (n : ℕ). (let r : RowCounts = record { cells = length h.cells; queue = n; run = length h'.run } in r)) b
+    ∙ ap (λ (n : ℕ). (let r : RowCounts = record { cells = length h.cells; queue = q.rows h.queue; run = n } in r)) c

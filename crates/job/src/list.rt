@@ -1,43 +1,43 @@
-// Lists of calls on a job, with what each gave beside it.
+//! Lists of calls on a job, with what each gave beside it.
 ghost use Rattle.std.specs.Prelude.{◌≡◌};
 ghost use Rattle.job.specs.Gives.{of_change, of_plan};
 
-use planner::planned::Planned;
+use planner::plan::Planned;
 use subject::refusal::Refusal;
 use subject::run::Request;
 
-// A call on a job.
+/// A call on a job.
 #[derive(Clone, Copy)]
 pub enum Call {
-    // close the way with this number
+    /// Close the way with this number.
     Close(usize),
-    // reopen the way with this number
+    /// Reopen the way with this number.
     Reopen(usize),
-    // plan a run
+    /// Plan a run.
     Plan(Request),
 }
 
-// What a call gave. (An option of a result of an option would be no plainer: it would name none of the four.)
+/// What a call gave.
 #[derive(Clone, Copy)]
 pub enum Answer<C> {
-    // not tried yet
+    /// Not tried yet.
     Untried,
-    // the way was closed or reopened
+    /// The way was closed or reopened.
     Done,
-    // a run was found
+    /// A run was found.
     Found(Planned<C>),
-    // the call was refused
+    /// The call was refused.
     Refused(Refusal),
 }
 
-// A call with its answer beside it.
+/// A call with its answer beside it.
 #[derive(Clone, Copy)]
 pub struct Entry<C> {
     pub call: Call,
     pub answer: Answer<C>,
 }
 
-// What is written beside a closing or a reopening.
+/// What is written beside a closing or a reopening.
 impl<C> From<Result<(), Refusal>> for Answer<C> {
     ghost from_gives = { λ gave answer. answer ≡ of_change gave };
 
@@ -49,7 +49,7 @@ impl<C> From<Result<(), Refusal>> for Answer<C> {
     }
 }
 
-// What is written beside a plan.
+/// What is written beside a plan.
 impl<C> From<Result<Planned<C>, Refusal>> for Answer<C> {
     ghost from_gives = { λ gave answer. answer ≡ of_plan gave };
 

@@ -7,7 +7,7 @@ ghost use Rattle.job.specs.Covering.{Covers, larger, largest};
 ghost use Rattle.job.specs.Texts.{TextOf, FirstLine};
 ghost use Rattle.job.specs.Scripts.{AllUntried, NotPlan, EndTrouble, TroubleOf, ScriptOf, trouble_text};
 
-use crate::line::read_line;
+use crate::call_text::read_line;
 use subject::money::Money;
 use crate::list::{Answer, Call, Entry};
 use subject::run::Request;

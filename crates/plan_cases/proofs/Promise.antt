@@ -8,7 +8,7 @@ use Rattle.subject.specs.declared.run.Request.{Request}
 use Rattle.subject.specs.Sites.{SiteMeaning}
 use Rattle.search.specs.Lends.{LentMemory}
 use Rattle.search.proofs.Stopping.{stopped_other}
-use Rattle.planner.specs.declared.planned.Planned.{Planned}
+use Rattle.planner.specs.declared.plan.Planned.{Planned}
 use Rattle.planner.specs.Outcome.{NoLawfulRun, PlanRefused, PlanOutcome}
 use Rattle.plan_cases.specs.Plans.{Answers}
 

@@ -4,7 +4,7 @@ use Rattle.subject.specs.declared.money.Money.{Money}
 use Rattle.subject.specs.declared.disturbance.Disturbance.{Disturbance}
 use Rattle.subject.specs.Moneys.{amount}
 use Rattle.subject.specs.declared.refusal.Refusal.{Refusal}
-use Rattle.planner.specs.declared.planned.Planned.{Planned}
+use Rattle.planner.specs.declared.plan.Planned.{Planned}
 
 abbrev pub money_gave : Result (Planned Money) Refusal → Result ℕ Refusal
 money_gave (Ok p) = Ok (amount p.total)

@@ -7,7 +7,7 @@ use Rattle.subject.specs.declared.run.Step.{Step}
 use Rattle.subject.specs.declared.run.Request.{Request}
 use Rattle.subject.specs.Sites.{SiteMeaning}
 use Rattle.subject.specs.Runs.{IsLeast}
-use Rattle.planner.specs.declared.planned.Planned.{Planned}
+use Rattle.planner.specs.declared.plan.Planned.{Planned}
 use Rattle.planner.specs.Outcome.{NoLawfulRun}
 
 -- the total is that of a least run; and where the answer is that there is no run, none is lawful

@@ -4,7 +4,7 @@ ghost use Rattle.plan_cases.specs.Gave.{money_gave, grade_gave};
 
 use subject::disturbance::Disturbance;
 use subject::money::Money;
-use planner::planned::Planned;
+use planner::plan::Planned;
 use subject::refusal::Refusal;
 
 // The cents of a total. Each kind has a figure of its own, which its definition names: one function for both would only hand

@@ -5,7 +5,7 @@ ghost use Rattle.plan_cases.specs.Plans.{Answers};
 
 use search::owned::OwnedRows;
 use planner::plan::plan;
-use planner::planned::Planned;
+use planner::plan::Planned;
 use subject::refusal::Refusal;
 use subject::run::Request;
 use subject::site::Site;

@@ -18,7 +18,7 @@ use Rattle.search.specs.Lends.{LentMemory, lent_memory}
 use Rattle.search.specs.declared.memory.Memory.{Memory}
 use Rattle.survey.specs.SurveySite.{money_site}
 use Rattle.survey.specs.SiteBounds.{sealed_bounded}
-use Rattle.planner.specs.declared.planned.Planned.{Planned}
+use Rattle.planner.specs.declared.plan.Planned.{Planned}
 use Rattle.planner.specs.Outcome.{PlanOutcome, PlanRefused}
 use Rattle.relays.specs.Problem.{value}
 use Rattle.relays.specs.Answers.{Solved, Unsolved, Answered}

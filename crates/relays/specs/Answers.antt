@@ -9,7 +9,7 @@ use Rattle.survey.specs.Contents.{Contents}
 use Rattle.subject.specs.declared.run.Step.{Step}
 use Rattle.subject.specs.declared.run.Request.{Request}
 use Rattle.search.specs.Checks.{ChecksPass}
-use Rattle.planner.specs.declared.planned.Planned.{Planned}
+use Rattle.planner.specs.declared.plan.Planned.{Planned}
 use Rattle.relays.specs.Problem.{Infeasible, Optimal, value}
 
 -- the run is an optimal path, and the total is what it costs to the cent. It has at most as many steps as there are places with

@@ -11,7 +11,7 @@ ghost use Rattle.relays.specs.Answers.{Answered};
 
 use subject::money::Money;
 use planner::plan::plan;
-use planner::planned::Planned;
+use planner::plan::Planned;
 use subject::queue::PriorityQueue;
 use subject::refusal::Refusal;
 use search::memory::Memory;

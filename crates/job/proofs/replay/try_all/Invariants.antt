@@ -1,17 +1,18 @@
--- The calls are as they were; the job stands over the same site and has closed what stands in the book for the calls tried so
--- far; and those have been tried.
+-- The calls are as they were; the job is over the same site and has closed what is in the book for the calls tried so far; and those
+-- have been tried.
 use Rattle.std.proofs.Common.{◌≡◌, take}
-use Rattle.subject.specs.Problems.{kind_of}
 use Rattle.search.specs.Memories.{lent_memory, SameLenders}
 use Rattle.job.specs.Book.{after_calls}
-use Rattle.job.specs.Jobs.{site_below, closed_by}
+use Rattle.job.specs.Jobs.{site_below, closed_by, way_count, state_of}
 use Rattle.job.specs.Replay.{calls_of, CallsOutcome}
 use Rattle.job.proofs.replay.try_all.Given as goal
 
 abbrev pub invariant-loop-entry : goal.invariant-loop-entry
-invariant-loop-entry g l =
-    (calls_of l.entries ≡ calls_of l.initial.entries)
-    × (site_below l.job ≡ site_below l.initial.job)
-    × (closed_by l.job ≡ after_calls (g.S.Site.meaning (site_below l.initial.job)).ways (closed_by l.initial.job) (calls_of (take l.entry-index l.entries)))
-    × CallsOutcome (kind_of g.S.Charge.Charge) g.Q.PriorityQueue.many (g.S.Site.meaning (site_below l.initial.job)) (closed_by l.initial.job) (lent_memory l.initial.memory) (lent_memory l.memory) (take l.entry-index l.entries)
-    × SameLenders g.Q.PriorityQueue.lenders l.initial.memory l.memory
+invariant-loop-entry g l = record {
+  calls : calls_of l.entries ≡ calls_of l.initial.entries;
+  below : site_below l.job ≡ site_below l.initial.job;
+  book : closed_by l.job ≡ after_calls (way_count g.S.Site l.initial.job) (closed_by l.initial.job) (calls_of (take l.entry-index l.entries));
+  listed : CallsOutcome (state_of g.S.Site g.S.Charge.Charge l.initial.job) g.Q.PriorityQueue
+    (lent_memory l.initial.memory) (lent_memory l.memory) (take l.entry-index l.entries);
+  same : SameLenders g.Q.PriorityQueue l.initial.memory l.memory;
+}
