@@ -25,7 +25,7 @@ still_wait {before = before} {q = q} {q' = q'} s e x hi hj =
       rows = record {
         lender = e.lender ∙ s.rows.lender;
         len = e.len ∙ s.rows.len;
-        charges_stay = e.charges_stay ∙ s.rows.charges_stay;
+        same_charges = e.same_charges ∙ s.rows.same_charges;
       };
       wait = λ k. same_wait q.placement (omega arith) (omega arith) x before.len (omega (arith, s.rows.len)) (omega (arith, s.rows.len)) k ∙ s.wait k;
     }

@@ -1,6 +1,6 @@
 -- A queue over lent rows: what waits in it, and its order. Stands on Rows, Order, the struct of a queue and the ghost
 -- members of layouts and charges.
-use Rattle.std.specs.Prelude.{◌≡◌, ℕ, ◌-◌, ◌<◌, Bool, List, [], ◌∷◌, cond, None, Option, length, nat_lt, slice_index, slice_index_or}
+use Rattle.std.specs.Prelude.{◌≡◌, ℕ, ◌-◌, ◌<◌, Bool, List, [], ◌∷◌, cond, None, Option, length, nat_lt, slice_index, slice_index_or, slice_set}
 use Rattle.std.specs.Borrow.{GName}
 use Rattle.std.specs.List.{slice_get}
 use Rattle.subject.specs.declared.charge.Charge.{Ghosts as ChargeGhosts}
@@ -48,11 +48,19 @@ module _ {C L : Type 0} (l : LayoutGhosts L) (c : ChargeGhosts C) (q : TreeQueue
   abbrev pub IsForemostBelow : ℕ → ℕ → Type 0
   IsForemostBelow i r = IsForemost l.parent (IsAhead (rank l c) (charges q.rows.now)) (cells q.rows.now) q.len i r
 
+-- the same rows, but that `cell` has the charge
+pub record IsCharged {C L : Type 0} (q q' : TreeQueue C L) (cell : ℕ) (charge : C) : Type 0 where
+  pub lender : q'.rows.ghost_name ≡ q.rows.ghost_name
+  pub len : q'.len ≡ q.len
+  pub written : charges q'.rows.now ≡ slice_set (charges q.rows.now) cell charge
+  pub same_cells : cells q'.rows.now ≡ cells q.rows.now
+  pub same_positions : positions q'.rows.now ≡ positions q.rows.now
+
 -- some cells have gone to other positions: the same rows, as many cells wait, and each cell has the charge that it had
 pub record SameCharges {C L : Type 0} (q q' : TreeQueue C L) : Type 0 where
   pub lender : q'.rows.ghost_name ≡ q.rows.ghost_name
   pub len : q'.len ≡ q.len
-  pub charges_stay : charges q'.rows.now ≡ charges q.rows.now
+  pub same_charges : charges q'.rows.now ≡ charges q.rows.now
 
 -- so they have, and the same cells wait
 pub record SameWaiting {C L : Type 0} (q q' : TreeQueue C L) : Type 0 where

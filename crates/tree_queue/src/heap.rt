@@ -2,10 +2,10 @@ ghost use Rattle.std.specs.Prelude.{false};
 ghost use Rattle.std.proofs.Common.{rules};
 ghost use Rattle.tree_queue.specs.Trees.{binary_parent, binary_child};
 
-use subject::charge::Charge;
 use crate::layout::Layout;
 use crate::queue::TreeQueue;
 use crate::take_lowest::TakeLowest;
+use subject::charge::Charge;
 
 /// An indexed binary heap over lent rows: a priority queue for every charge kind.
 ///

@@ -8,4 +8,5 @@ pub mod queue;
 pub mod row;
 mod sift;
 pub mod take_lowest;
-
+#[cfg(test)]
+mod tests;

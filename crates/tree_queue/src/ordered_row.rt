@@ -2,10 +2,10 @@ ghost use Rattle.std.specs.Prelude.{true};
 ghost use Rattle.std.proofs.Common.{rules};
 ghost use Rattle.tree_queue.specs.Trees.{chain_parent, chain_child};
 
-use subject::charge::Charge;
 use crate::layout::Layout;
 use crate::queue::TreeQueue;
 use crate::take_lowest::TakeLowest;
+use subject::charge::Charge;
 
 /// A row of the waiting cells in the order of their charges, over lent rows: a priority queue for every charge kind.
 ///

@@ -1,4 +1,4 @@
-ghost use Rattle.std.specs.Prelude.{◌≡◌, ℕ, ◌<◌, ◌≤◌, [], ◌∷◌, length, slice_index, slice_set, IfNone, IfSome};
+ghost use Rattle.std.specs.Prelude.{◌≡◌, ℕ, ◌<◌, ◌≤◌, [], ◌∷◌, length, slice_index, IfNone, IfSome};
 ghost use Rattle.subject.specs.Queues.{IsPut, IsTaken, NoneWaits, SameRows};
 ghost use Rattle.tree_queue.specs.Rows.{charges, cells, positions};
 ghost use Rattle.tree_queue.specs.Order.{IsPlacement, IsOwnPlacement};
@@ -6,10 +6,10 @@ ghost use Rattle.tree_queue.specs.Order.{IsPlacement, IsOwnPlacement};
 use crate::layout::Layout;
 use crate::row::QueueRow;
 use crate::take_lowest::TakeLowest;
+use std::marker::PhantomData;
 use subject::charge::Charge;
 use subject::queue::PriorityQueue;
 use subject::refusal::Refusal;
-use std::marker::PhantomData;
 
 /// A priority queue over lent rows, for every charge kind and every layout: the cells at the first `len` positions wait.
 // The order of the cells is a premise of the calls and no ghost field: in the midst of a climb or a fall, which are methods
@@ -59,17 +59,13 @@ impl<'a, C: Charge, L: Layout> TreeQueue<'a, C, L> {
 
 impl<C: Charge, L: Layout> TreeQueue<'_, C, L> {
     ghost use Rattle.std.specs.Prelude.{◌-◌};
-    ghost use Rattle.tree_queue.specs.Queues.{row_count, row_lenders, what_waits, rank, IsInOrder, IsLastTaken};
+    ghost use Rattle.tree_queue.specs.Queues.{row_count, row_lenders, what_waits, rank, IsInOrder, IsCharged, IsLastTaken};
 
     // `cell` has another charge, and is where it was.
     #[tactic(auto, using(crate::proofs::Columns::columns))]
     fn set_charge(&mut self, cell: usize, charge: C)
         requires { cell < row_count self.old }
-        ensures lender { self.new.rows.ghost_name ≡ self.old.rows.ghost_name }
-        ensures len { self.new.len ≡ self.old.len }
-        ensures charges { charges self.new.rows.now ≡ slice_set (charges self.old.rows.now) cell charge }
-        ensures cells { cells self.new.rows.now ≡ cells self.old.rows.now }
-        ensures positions { positions self.new.rows.now ≡ positions self.old.rows.now }
+        ensures { IsCharged self.old self.new cell charge }
     {
         self.rows[cell].charge = charge;
     }

@@ -1,8 +1,8 @@
 ghost use Rattle.std.specs.Prelude.{◌≡◌, replicate, IfOk};
 ghost use Rattle.tree_queue.specs.Rows.{blank_row};
 
-use subject::charge::Charge;
 use std::alloc::{AllocError, Global};
+use subject::charge::Charge;
 
 /// One row of a queue. The row with number k holds three figures that belong together by that number alone: the charge of
 /// cell k, the cell at position k, and the position of cell k.

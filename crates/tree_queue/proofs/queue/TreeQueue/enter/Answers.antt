@@ -18,8 +18,8 @@ sift_up-requires-clause-rising g c =
     let need = c.requires in
     let s = c.set_charge.ensures in
     let at = read (λ r. r.position) queue.rows.now c.args.cell c.index-self-cell.result 0 need.cell in
-    let x = exchange_of s.cells s.positions at c.exchange.ensures.exchange in
-    rw (c.exchange.ensures.same.charges_stay ∙ s.charges) (rising g.met.L.Layout.is_tree c.args.charge (columns_of g.L.Layout g.C.Charge queue need.order) need.cell need.apart x)
+    let x = exchange_of s.same_cells s.same_positions at c.exchange.ensures.exchange in
+    rw (c.exchange.ensures.same.same_charges ∙ s.written) (rising g.met.L.Layout.is_tree c.args.charge (columns_of g.L.Layout g.C.Charge queue need.order) need.cell need.apart x)
 
 pub returns-clause-put : goal.returns-clause-put
 returns-clause-put g c =
@@ -29,6 +29,6 @@ returns-clause-put g c =
     let s = c.set_charge.ensures in
     let up = c.sift_up.ensures.same in
     let at = read (λ r. r.position) rows c.args.cell c.index-self-cell.result 0 need.cell in
-    let x = exchange_of s.cells s.positions at c.exchange.ensures.exchange in
+    let x = exchange_of s.same_cells s.same_positions at c.exchange.ensures.exchange in
     let p = entered g.met.L.Layout.is_tree c.args.charge (columns_of g.L.Layout g.C.Charge queue need.order) need.cell need.apart x (positions c.sift_up.new.self.rows.now) (length-map rows (λ r. r.charge)) up.wait in
-    rw (up.rows.len, up.rows.charges_stay ∙ c.exchange.ensures.same.charges_stay ∙ s.charges) p
+    rw (up.rows.len, up.rows.same_charges ∙ c.exchange.ensures.same.same_charges ∙ s.written) p

@@ -26,6 +26,6 @@ loop-first-preserved g c =
     let down = sunk g.met.L.Layout.is_tree (ahead_transitive r (charges queue.rows.now)) below x inv.sinking
     (λ d. let e = c.if-is_ahead.ensures d in r.total _ _ (cc)) in
     record {
-      sinking = rw (same.charges_stay, same.len) down;
+      sinking = rw (same.same_charges, same.len) down;
       same = still_wait inv.same same x (omega arith) in_len;
     }

@@ -25,6 +25,6 @@ loop-i-preserved g c =
     (λ d. let e = c.if-is_ahead.ensures d in r.total _ _ (cc)) in
     record {
       waits = omega (arith, same.len);
-      rising = subst (λ (m : ℕ). IsRisingAt l g.C.Charge last m) (sym is) (rw (same.charges_stay, same.len) up);
+      rising = subst (λ (m : ℕ). IsRisingAt l g.C.Charge last m) (sym is) (rw (same.same_charges, same.len) up);
       same = still_wait inv.same same x (omega arith) inv.waits;
     }

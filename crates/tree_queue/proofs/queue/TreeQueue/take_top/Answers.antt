@@ -27,4 +27,4 @@ returns-clause-some g c =
     let wait = subst (λ (j : ℕ). SameWait j (positions mid.rows.now) last) is down.wait in
     let p = top_taken g.met.L.Layout.is_tree (columns_of g.L.Layout g.C.Charge queue c.requires) some x (ranks g.met.C.Charge.laws g.L.Layout.highest_on_top) _
     (λ d. read (λ r. r.charge) rows _ c.index-self-cell.result d inside ∙ ap (λ m. get_or (charges rows) m d) top) (length-map rows (λ r. r.charge)) last wait in
-    rw (down.rows.len, is, down.rows.charges_stay ∙ c.exchange.ensures.same.charges_stay) (rw (← top) at p)
+    rw (down.rows.len, is, down.rows.same_charges ∙ c.exchange.ensures.same.same_charges) (rw (← top) at p)
