@@ -7,10 +7,14 @@ use Rattle.std.proofs.lemmas.List.Edits.{fill_by_more}
 use Rattle.std.proofs.Math.Seq.{map-set_same}
 use lib.ListN.{length-map}
 use Rattle.tree_queue.specs.Order.{IsTree, IsPlacement, IsOwnPlacement, IsExchange, SameWait, IsRising, IsAhead}
-use Rattle.tree_queue.specs.Queues.{waits_of}
+use Rattle.subject.specs.declared.charge.Charge.{Ghosts as ChargeGhosts}
+use Rattle.tree_queue.specs.declared.layout.Layout.{Ghosts as LayoutGhosts}
+use Rattle.tree_queue.specs.declared.queue.TreeQueue.{TreeQueue}
+use Rattle.tree_queue.specs.Rows.{charges, cells, positions}
+use Rattle.tree_queue.specs.Queues.{row_count, waits_of, what_waits, MayBeAbove, IsInOrder, IsCharged, IsExchanged, SameCharges}
 use Rattle.subject.specs.Queues.{IsPut}
 use Rattle.tree_queue.proofs.Changes.{OthersStay, put}
-use Rattle.tree_queue.proofs.Ordered.{IsOrdered}
+use Rattle.tree_queue.proofs.Ordered.{IsOrdered, columns_of}
 
 pub own_placement : (n : ℕ) (cs ps : List ℕ) → length cs ≡ n → length ps ≡ n → IsOwnPlacement n cs ps → IsPlacement n cs ps
 own_placement n cs ps lc lp own = record {
@@ -49,7 +53,7 @@ module _ {C : Type 0} {up down : ℕ → ℕ} (t : IsTree up down) {rank : C →
   same_charge : (k : ℕ) (d : C) → k < len → get_or (set ch cell x) (get_or cs' k 0) d ≡ get_or ch (get_or cs k 0) d
   same_charge k d h = ap (λ m. get_or (set ch cell x) m d) (same_cell k h) ∙ get_or-set_other ch cell (get_or cs k 0) x d (another k h)
 
-  pub rising : IsRising up (IsAhead rank (set ch cell x)) cs' (len + 1) len
+  rising : IsRising up (IsAhead rank (set ch cell x)) cs' (len + 1) len
   rising = record {
     others = λ k h b ne d.
         let u = t.earlier k h in
@@ -78,7 +82,7 @@ module _ {C : Type 0} {up down : ℕ → ℕ} (t : IsTree up down) {rank : C →
             ap (λ m. ltb m (len + 1)) f ∙ same_below (get_or ps k 0) len apart'
       ]
 
-  pub entered : (ps'' : List ℕ) → length ch ≡ n → SameWait (len + 1) ps' ps'' → IsPut (waits_of ch ps len) (waits_of (set ch cell x) ps'' (len + 1)) cell x
+  entered : (ps'' : List ℕ) → length ch ≡ n → SameWait (len + 1) ps' ps'' → IsPut (waits_of ch ps len) (waits_of (set ch cell x) ps'' (len + 1)) cell x
   entered ps'' lch same =
       put n cell ch lch ps len ps'' (len + 1) (λ k h ne. same k ∙ others_stay k h ne) x hc
       (elim (cases_lt (get_or ps'' cell 0) (len + 1)) [
@@ -93,3 +97,20 @@ module _ {C : Type 0} {up down : ℕ → ℕ} (t : IsTree up down) {rank : C →
     where
       yes : ltb (get_or ps' cell 0) (len + 1) ≡ true
       yes = let a = at_cell in grind arith
+
+-- an exchange of columns and positions that equal others is one of those
+exchange_of : {cs ps cs₀ ps₀ cs' ps' : List ℕ} {a b j : ℕ} → cs ≡ cs₀ → ps ≡ ps₀ → a ≡ b → IsExchange cs ps cs' ps' a j → IsExchange cs₀ ps₀ cs' ps' b j
+exchange_of p q r x = rw (← p, ← q, ← r) x
+
+module _ {C L : Type 0} (l : LayoutGhosts L) (c : ChargeGhosts C) (t : IsTree l.parent l.first_child) {q q' q'' : TreeQueue C L} {cell at : ℕ} {x : C}
+    (o : IsInOrder l c q) (hc : cell < row_count q) (apart : q.len ≤ get_or (positions q.rows.now) cell 0) (s : IsCharged q q' cell x)
+    (place : at ≡ get_or (positions q.rows.now) cell 0) (same : SameCharges q' q'') (e : IsExchanged q' q'' at q.len) where
+  pub rises : IsRising l.parent (MayBeAbove l c q'') (cells q''.rows.now) (q.len + 1) q.len
+  rises = rw (same.same_charges, s.written) (rising t x (columns_of l c q o) hc apart (exchange_of s.same_cells s.same_positions place e))
+
+  pub waits : (last : TreeQueue C L) → last.len ≡ q.len + 1 → charges last.rows.now ≡ charges q''.rows.now
+      → SameWait (q.len + 1) (positions q''.rows.now) (positions last.rows.now) → IsPut (what_waits q) (what_waits last) cell x
+  waits last len same_charges wait =
+      let x' = exchange_of s.same_cells s.same_positions place e in
+      rw (len, same_charges, same.same_charges, s.written)
+      (entered t x (columns_of l c q o) hc apart x' (positions last.rows.now) (length-map q.rows.now (λ r. r.charge)) wait)

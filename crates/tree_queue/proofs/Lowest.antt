@@ -1,6 +1,6 @@
 -- Along a chain the order holds of any two positions, by transitivity; so the last cell that waits has a lowest charge,
 -- and when the length falls by one it alone stops waiting.
-use Rattle.std.proofs.Common.{◌≡◌, ℕ, zero, suc, ◌+◌, ◌-◌, ◌<◌, ◌≤◌, Bool, true, List, length, get_or, Some, None, Option, IfSome, subst, sym, ap, ◌∙◌, inl, inr, arith}
+use Rattle.std.proofs.Common.{◌≡◌, ℕ, zero, suc, ◌+◌, ◌-◌, ◌<◌, ◌≤◌, true, List, length, get_or, Some, None, Option, IfSome, subst, sym, ap, ◌∙◌, inl, inr, arith}
 use Rattle.std.proofs.lemmas.Bool.{cases_eq}
 use lib.ListN.{length-map}
 use Rattle.subject.specs.Charges.{Kind, Laws}
@@ -12,7 +12,7 @@ use Rattle.tree_queue.specs.Rows.{charges, cells, positions}
 use Rattle.tree_queue.specs.Trees.{chain_parent}
 use Rattle.tree_queue.proofs.Changes.{taken}
 use Rattle.tree_queue.proofs.Ordered.{IsOrdered}
-use Rattle.tree_queue.proofs.Ranks.{ranks, itself, ahead_itself, ahead_transitive}
+use Rattle.tree_queue.proofs.Ranks.{ranks, ahead_itself, ahead_transitive}
 use Rattle.tree_queue.proofs.Top.{same_less}
 
 module _ (R : ℕ → ℕ → Type 0) (trans : (a b c : ℕ) → R a b → R b c → R a c) (same : (a : ℕ) → R a a) (cs : List ℕ) (len : ℕ) (a : IsArranged chain_parent R cs len) where

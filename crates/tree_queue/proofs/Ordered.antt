@@ -1,5 +1,5 @@
 -- What holds of the columns of a queue in order, together; and what an exchange among the cells that wait keeps.
-use Rattle.std.proofs.Common.{ℕ, ◌<◌, ◌≤◌, Bool, List, length, ◌∙◌, arith}
+use Rattle.std.proofs.Common.{ℕ, ◌<◌, ◌≤◌, Bool, List, ◌∙◌, arith}
 use Rattle.subject.specs.declared.charge.Charge.{Ghosts as ChargeGhosts}
 use Rattle.tree_queue.specs.declared.layout.Layout.{Ghosts as LayoutGhosts}
 use Rattle.tree_queue.specs.declared.queue.TreeQueue.{TreeQueue}

@@ -1,6 +1,6 @@
 -- The cell at the top leaves: it changes positions with the last that waits, which then sinks; it alone stops waiting,
 -- and it may stand above all that wait.
-use Rattle.std.proofs.Common.{◌≡◌, ℕ, ◌-◌, ◌<◌, ◌≤◌, Bool, true, ltb, ◌≢◌, List, length, get_or, sym, ap, ◌∙◌, inl, inr, arith}
+use Rattle.std.proofs.Common.{◌≡◌, ℕ, ◌-◌, ◌<◌, ◌≤◌, Bool, ltb, ◌≢◌, List, length, get_or, sym, ap, ◌∙◌, inl, inr, arith}
 use Rattle.std.proofs.lemmas.Bool.{cases_eq, cases_lt, lt-ltb, le-ltb}
 use Rattle.tree_queue.specs.Order.{IsTree, IsExchange, SameWait, IsSinking, IsAhead}
 use Rattle.tree_queue.specs.Queues.{waits_of}

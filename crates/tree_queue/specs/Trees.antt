@@ -1,4 +1,4 @@
--- The two trees over positions. In the binary tree the positions 2 i + 1 and 2 i + 2 are below i; in the chain i + 1 is.
+-- The two trees over positions: in the binary tree 2 i + 1 and 2 i + 2 are below i, in the chain i + 1 is.
 -- Stands on nothing.
 use Rattle.std.specs.Prelude.{ℕ, ◌+◌, ◌-◌, ◌*◌, ◌/◌}
 

@@ -9,8 +9,8 @@ use subject::charge::Charge;
 
 /// An indexed binary heap over lent rows: a priority queue for every charge kind.
 ///
-/// The cells at the first positions wait, with the lowest charge on top. A cell is found by its position, without looking
-/// for it; to put or to take one costs steps along one path of the tree.
+/// The lowest charge is on top. A cell is found by its position, without looking for it; to put or to take one
+/// costs steps along one path of the tree.
 pub type Heap<'a, C> = TreeQueue<'a, C, Binary>;
 
 /// The binary tree: 2 i + 1 and 2 i + 2 are below the position i, and the lowest charge is on top.

@@ -3,9 +3,10 @@ ghost use Rattle.tree_queue.specs.Order.{IsTree, may_be_above};
 
 use subject::charge::Charge;
 
-/// How a queue lays out the cells that wait: a tree over positions, and whether the lowest or the highest charge is on top.
+/// How a queue lays out the cells that wait: a tree over positions, and which charge is on top.
 ///
-/// Each position but 0 is below an earlier one. At most two positions are below one, side by side.
+/// Each position but 0 is below an earlier one. At most two positions are below one, side by side. On top is the
+/// lowest charge, or the highest.
 pub trait Layout {
     // the position above
     ghost parent: { ℕ → ℕ };

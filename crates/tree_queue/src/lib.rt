@@ -1,4 +1,4 @@
-//! Priority queues over rows that a caller lends: an indexed heap and an ordered row, each as a tree over positions.
+//! Priority queues over rows that a caller lends: an indexed heap and an ordered row, each a tree over positions.
 #![tactic(auto)]
 
 pub mod heap;

@@ -7,10 +7,10 @@ use crate::queue::TreeQueue;
 use crate::take_lowest::TakeLowest;
 use subject::charge::Charge;
 
-/// A row of the waiting cells in the order of their charges, over lent rows: a priority queue for every charge kind.
+/// The waiting cells in the order of their charges, over lent rows: a priority queue for every charge kind.
 ///
-/// The highest charge is first and a lowest one last, so that to take one is a single step; to put one costs a step for each
-/// cell that it goes past.
+/// The highest charge is first and a lowest one last, so that to take one is a single step; to put one costs a
+/// step for each cell that it goes past.
 pub type OrderedRow<'a, C> = TreeQueue<'a, C, Chain>;
 
 /// The chain: i + 1 is below the position i, and the highest charge is on top.

@@ -1,5 +1,5 @@
 ghost use Rattle.std.specs.Prelude.{◌≡◌, ℕ, ◌<◌, ◌≤◌, [], ◌∷◌, length, slice_index, IfNone, IfSome};
-ghost use Rattle.subject.specs.Queues.{IsPut, IsTaken, NoneWaits, SameRows};
+ghost use Rattle.subject.specs.Queues.{IsPut, NoneWaits, SameRows};
 ghost use Rattle.tree_queue.specs.Rows.{charges, cells, positions};
 ghost use Rattle.tree_queue.specs.Order.{IsPlacement, IsOwnPlacement};
 
@@ -11,9 +11,10 @@ use subject::charge::Charge;
 use subject::queue::PriorityQueue;
 use subject::refusal::Refusal;
 
-/// A priority queue over lent rows, for every charge kind and every layout: the cells at the first `len` positions wait.
-// The order of the cells is a premise of the calls and no ghost field: in the midst of a climb or a fall, which are methods
-// too, one cell is too low or too high.
+/// A priority queue over lent rows, for every charge kind and every layout.
+///
+/// The cells at the first positions wait, in the order of the layout.
+// That order is a premise of the calls and no ghost field, since it does not hold inside of them.
 #[derive(Drop)]
 pub struct TreeQueue<'a, C, L> {
     pub(crate) rows: &'a mut [QueueRow<C>],
@@ -59,7 +60,8 @@ impl<'a, C: Charge, L: Layout> TreeQueue<'a, C, L> {
 
 impl<C: Charge, L: Layout> TreeQueue<'_, C, L> {
     ghost use Rattle.std.specs.Prelude.{◌-◌};
-    ghost use Rattle.tree_queue.specs.Queues.{row_count, row_lenders, what_waits, rank, IsInOrder, IsCharged, IsLastTaken};
+    ghost use Rattle.tree_queue.specs.Queues.{row_count, row_lenders, what_waits, rank};
+    ghost use Rattle.tree_queue.specs.Queues.{IsInOrder, IsCharged, IsTakenFrom, IsLastTaken};
 
     // `cell` has another charge, and is where it was.
     #[tactic(auto, using(crate::proofs::Columns::columns))]
@@ -70,7 +72,7 @@ impl<C: Charge, L: Layout> TreeQueue<'_, C, L> {
         self.rows[cell].charge = charge;
     }
 
-    // `cell`, which does not wait, waits with `charge`: it goes to the position behind those that wait, and up from there.
+    // `cell`, which does not wait, waits with `charge`: it goes behind those that wait, and up from there.
     fn enter(&mut self, cell: usize, charge: C)
         requires order { IsInOrder L.Layout C.Charge self.old }
         requires cell { cell < row_count self.old }
@@ -113,9 +115,9 @@ impl<C: Charge, L: Layout> TreeQueue<'_, C, L> {
         ensures order { IsInOrder L.Layout C.Charge self.new }
         ensures same { SameRows row_count row_lenders self.old self.new }
         ensures none { IfNone result ((self.old.len ≡ 0) × (self.new ≡ self.old)) }
-        ensures one_less { IfSome result (λ p. (0 < self.old.len) × (self.new.len ≡ self.old.len - 1)) }
+        ensures one_less { IfSome result (λ _. (0 < self.old.len) × (self.new.len ≡ self.old.len - 1)) }
         ensures inside { IfSome result (λ p. p.0 < row_count self.old) }
-        ensures some { IfSome result (λ p. IsTaken (rank L.Layout C.Charge) (what_waits self.old) (what_waits self.new) p.0 p.1) }
+        ensures some { IfSome result (IsTakenFrom (rank L.Layout C.Charge) self.old self.new) }
     {
         let last = self.len.checked_sub(1)?;
         let cell = self.rows[0].cell;
@@ -126,8 +128,7 @@ impl<C: Charge, L: Layout> TreeQueue<'_, C, L> {
         Some((cell, charge))
     }
 
-    // The cell at the last position that waits leaves with its charge, and the rows stay as they are; none where no cell
-    // waits.
+    // The last cell that waits leaves with its charge, and the rows stay as they are; none where no cell waits.
     #[tactic(auto, using(crate::proofs::Columns::reads))]
     pub(crate) fn take_last(&mut self) -> Option<(usize, C)>
         ensures none { IfNone result ((self.old.len ≡ 0) × (self.new ≡ self.old)) }

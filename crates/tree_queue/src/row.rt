@@ -4,8 +4,8 @@ ghost use Rattle.tree_queue.specs.Rows.{blank_row};
 use std::alloc::{AllocError, Global};
 use subject::charge::Charge;
 
-/// One row of a queue. The row with number k holds three figures that belong together by that number alone: the charge of
-/// cell k, the cell at position k, and the position of cell k.
+/// One row of a queue: the row with number k holds the charge of cell k, the cell at position k, and the position
+/// of cell k.
 #[derive(Clone, Copy, Debug)]
 pub struct QueueRow<C> {
     pub charge: C,

@@ -69,7 +69,7 @@ impl<C: Charge, L: Layout> TreeQueue<'_, C, L> {
         }
     }
 
-    // Of the positions right below `i`, of which `first` is the first, that whose cell may be above the others.
+    // Of the positions right below `i`, which begin with `first`, that whose cell may be above the others.
     fn foremost(&self, i: usize, first: usize) -> usize
         requires first { first ≡ L.Layout.first_child i }
         requires waits { first < self.now.len }

@@ -1,5 +1,5 @@
 -- each turn is one step of a fall, which ends where the foremost below may be there, or where nothing is below
-use Rattle.std.proofs.Common.{◌<◌, arith}
+use Rattle.std.proofs.Common.{arith}
 use Rattle.tree_queue.specs.Rows.{charges}
 use Rattle.tree_queue.proofs.Ordered.{still_wait}
 use Rattle.tree_queue.proofs.Ranks.{ranks, ahead_transitive}
