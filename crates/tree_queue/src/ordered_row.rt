@@ -40,6 +40,7 @@ impl Layout for Chain {
 }
 
 impl TakeLowest for Chain {
+    #[tactic(auto, using(crate::proofs::Lowest::lowest_taken))]
     fn take_lowest<C: Charge>(queue: &mut TreeQueue<'_, C, Chain>) -> Option<(usize, C)> {
         queue.take_last()
     }
