@@ -1,11 +1,12 @@
 -- What an answer says of a call on a queue. Stands on what queue calls do.
-use Rattle.std.specs.Prelude.{◌≡◌, ℕ, ◌<◌, ◌≤◌, ◌⊎◌, None, Some, Option, Ok, Err}
+use Rattle.std.specs.Prelude.{◌≡◌, ℕ, ◌<◌, ◌≤◌, ◌⊎◌, List, [], ◌∷◌, None, Some, Option, Ok, Err}
 use Rattle.subject.specs.declared.money.Money.{Money}
 use Rattle.subject.specs.declared.queue.PriorityQueue.{Ghosts as QueueGhosts}
 use Rattle.subject.specs.declared.refusal.Refusal.TheVariants.{NoSuchCell}
 use Rattle.subject.specs.Moneys.{of_cents, amount, money_no_more}
 use Rattle.subject.specs.Queues.{IsPut, IsTaken, NoneWaits}
 use Rattle.queue_cases.specs.declared.call.Call.{Call}
+use Rattle.queue_cases.specs.declared.call.Line.{Line}
 use Rattle.queue_cases.specs.declared.call.Call.TheVariants.{Rows as ToRows, Put as ToPut, Take as ToTake, Empty as ToEmpty}
 use Rattle.queue_cases.specs.declared.answer.Answer.{Answer}
 use Rattle.queue_cases.specs.declared.answer.Answer.TheVariants.{Rows as HasRows, Put as DidPut, Took, Emptied}
@@ -39,3 +40,33 @@ IsAnswerOf n before after ToEmpty r = (r ≡ Emptied) × NoneWaits after
 -- the answer of a queue to a call, given the queue before and after
 abbrev pub IsAnswer : {Q : Type 0} → QueueGhosts Q Money → Q → Q → Call → Answer → Type 0
 IsAnswer q before after call r = IsAnswerOf (q.rows before) (q.waits before) (q.waits after) call r
+
+-- the answer where there may be a call, of a queue of `n` rows: none where there is none
+abbrev pub IsAnswerIfAny : ℕ → Waits → Waits → Option Call → Option Answer → Type 0
+IsAnswerIfAny n before after None None = after ≡ before
+IsAnswerIfAny n before after (Some call) (Some answer) = IsAnswerOf n before after call answer
+IsAnswerIfAny n before after _ _ = ⊥
+
+pub record IsLineAnswer (n : ℕ) (before after : Waits) (line : Line) (r : Option Answer) : Type 0 where
+  pub to_call : IsAnswerIfAny n before after line.call r
+
+abbrev pub IsLineAnswerOn : {Q : Type 0} → QueueGhosts Q Money → Q → Q → Line → Option Answer → Type 0
+IsLineAnswerOn q before after line r = IsLineAnswer (q.rows before) (q.waits before) (q.waits after) line r
+
+-- the answers to lines in turn, each where the lines before it left the queue
+abbrev pub AreAnswers : ℕ → Waits → Waits → List Line → List (Option Answer) → Type 0
+AreAnswers n before after [] [] = after ≡ before
+AreAnswers n before after (line ∷ lines) (answer ∷ answers) =
+    (between : Waits) × IsLineAnswer n before between line answer × AreAnswers n between after lines answers
+AreAnswers n before after _ _ = ⊥
+
+-- the answers of a queue of `n` rows, in which `before` waits at first
+abbrev pub AreAnswersFrom : ℕ → Waits → List Line → List (Option Answer) → Type 0
+AreAnswersFrom n before lines answers = (after : Waits) × AreAnswers n before after lines answers
+
+abbrev pub AreAnswersOf : {Q : Type 0} → QueueGhosts Q Money → Q → List Line → List (Option Answer) → Type 0
+AreAnswersOf q before lines answers = AreAnswersFrom (q.rows before) (q.waits before) lines answers
+
+-- the answers of a queue of `n` rows in which no cell waits at first
+abbrev pub AreNewAnswers : ℕ → List Line → List (Option Answer) → Type 0
+AreNewAnswers n lines answers = (before : Waits) × NoneWaits before × AreAnswersFrom n before lines answers

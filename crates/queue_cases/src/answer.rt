@@ -1,5 +1,6 @@
 // Calls on any queue for money, and its answers.
-ghost use Rattle.queue_cases.specs.Answers.{IsAnswer};
+ghost use Rattle.std.specs.Prelude.{◌≡◌, IfOk};
+ghost use Rattle.queue_cases.specs.Answers.{IsAnswer, IsLineAnswerOn, AreAnswersOf};
 
 use crate::call::{Call, Line};
 use std::alloc::{AllocError, Global};
@@ -38,6 +39,7 @@ impl fmt::Display for Answer {
 pub fn ask<Q: PriorityQueue<Charge = Money>>(queue: &mut Q, call: Call) -> Answer
     requires { Q.PriorityQueue.is_ordered queue.old }
     ensures ordered { Q.PriorityQueue.is_ordered queue.new }
+    ensures rows { Q.PriorityQueue.rows queue.new ≡ Q.PriorityQueue.rows queue.old }
     ensures answer { IsAnswer Q.PriorityQueue queue.old queue.new call result }
 {
     match call {
@@ -55,6 +57,8 @@ pub fn ask<Q: PriorityQueue<Charge = Money>>(queue: &mut Q, call: Call) -> Answe
 fn ask_line<Q: PriorityQueue<Charge = Money>>(queue: &mut Q, line: &Line) -> Option<Answer>
     requires { Q.PriorityQueue.is_ordered queue.old }
     ensures ordered { Q.PriorityQueue.is_ordered queue.new }
+    ensures rows { Q.PriorityQueue.rows queue.new ≡ Q.PriorityQueue.rows queue.old }
+    ensures answer { IsLineAnswerOn Q.PriorityQueue queue.old queue.new line.now result }
 {
     Some(ask(queue, line.call?))
 }
@@ -66,6 +70,7 @@ pub fn ask_all<Q: PriorityQueue<Charge = Money> + Drop>(
     lines: &[Line],
 ) -> Result<Vec<Option<Answer>>, AllocError>
     requires { Q.PriorityQueue.is_ordered queue }
+    ensures { IfOk result (λ v. AreAnswersOf Q.PriorityQueue queue lines.now v.items) }
 {
     let mut answers = Vec::new(alloc);
     for line in lines {

@@ -1,4 +1,7 @@
 // The kinds of queue that are compared.
+ghost use Rattle.std.specs.Prelude.{IfOk};
+ghost use Rattle.queue_cases.specs.Answers.{AreNewAnswers};
+
 use crate::answer::{Answer, ask_all};
 use crate::call::Line;
 use std::alloc::{AllocError, Global};
@@ -27,7 +30,9 @@ impl Kind {
         alloc: Global,
         row_count: usize,
         lines: &[Line],
-    ) -> Result<Vec<Option<Answer>>, AllocError> {
+    ) -> Result<Vec<Option<Answer>>, AllocError>
+        ensures { IfOk result (λ v. AreNewAnswers row_count lines.now v.items) }
+    {
         let used = QueueRow {
             charge: Money { cents: 0 },
             cell: 7,
