@@ -7,7 +7,8 @@ use Rattle.subject.specs.Moneys.{of_cents, amount, money_no_more}
 use Rattle.subject.specs.Queues.{IsPut, IsTaken, NoneWaits}
 use Rattle.queue_cases.specs.declared.call.Call.{Call}
 use Rattle.queue_cases.specs.declared.call.Line.{Line}
-use Rattle.queue_cases.specs.declared.call.Call.TheVariants.{Rows as ToRows, Put as ToPut, Take as ToTake, Empty as ToEmpty}
+use Rattle.queue_cases.specs.declared.call.Call.TheVariants.{Rows as ToRows, Put as ToPut}
+use Rattle.queue_cases.specs.declared.call.Call.TheVariants.{Take as ToTake, Empty as ToEmpty}
 use Rattle.queue_cases.specs.declared.answer.Answer.{Answer}
 use Rattle.queue_cases.specs.declared.answer.Answer.TheVariants.{Rows as HasRows, Put as DidPut, Took, Emptied}
 

@@ -1,5 +1,6 @@
 // The lines of the text on a queue of each kind, block by block: each "rows R" starts a block with fresh rows.
-ghost use Rattle.std.specs.Prelude.{◌≡◌, ◌+◌, min, if◌then◌else◌};
+ghost use Rattle.std.specs.Prelude.{◌≡◌, if◌then◌else◌};
+ghost use Rattle.queue_cases.specs.Counts.{count_after};
 
 use crate::answer::Answer;
 use crate::call::{Call, Line};
@@ -16,8 +17,8 @@ pub struct Tally {
 impl Tally {
     // One more call.
     fn count(&mut self, same: bool)
-        ensures agreed { self.new.agreed ≡ (if same then min (self.old.agreed + 1) 18446744073709551615 else self.old.agreed) }
-        ensures differed { self.new.differed ≡ (if same then self.old.differed else min (self.old.differed + 1) 18446744073709551615) }
+        ensures agreed { self.new.agreed ≡ (if same then count_after self.old.agreed else self.old.agreed) }
+        ensures differed { self.new.differed ≡ (if same then self.old.differed else count_after self.old.differed) }
     {
         if same {
             self.agreed = self.agreed.saturating_add(1);
@@ -48,8 +49,8 @@ struct Player<'a> {
 }
 
 impl Player<'_> {
-    // The answers to one line: the first and SAME, or the first, OTHER and those that are not the same. A line that no
-    // queue answers cannot be read.
+    // The answers to one line: the first and SAME, or the first, OTHER and those that differ from it. A line
+    // that no queue answers cannot be read.
     fn print(&mut self, number: u64, answers: &[Answer]) -> io::Result<()> {
         let Some((first, others)) = answers.split_first() else {
             return println!(self.rt; "LINE {number} CANNOT BE READ");
