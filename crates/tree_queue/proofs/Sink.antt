@@ -33,9 +33,9 @@ module _ {up down : ℕ → ℕ} (t : IsTree up down) {R : ℕ → ℕ → Type 
 
   -- the fall ends: the foremost below may stand there
   pub at_rest : {cs : List ℕ} {len i j : ℕ} → IsForemost up R cs len i j → IsSinking up R cs len i → R (get_or cs i 0) (get_or cs j 0) → IsArranged up R cs len
-  at_rest {cs = cs} {i = i} l s stands k h b =
+  at_rest {cs = cs} {i = i} l s ahead k h b =
       elim (cases_eq (up k) i) [
-        | inl e ↦ moved R (ap (λ m. get_or cs m 0) e) refl (trans _ _ _ stands (l.low k h b e))
+        | inl e ↦ moved R (ap (λ m. get_or cs m 0) e) refl (trans _ _ _ ahead (l.low k h b e))
         | inr np ↦ s.others k h b np
       ]
 

@@ -1,4 +1,4 @@
--- An exchange of what stands at two positions keeps every cell at one position, and below a length who stands there:
+-- An exchange of what is at two positions keeps every cell at one position, and the same cells below a length:
 -- each claim by cases on whether a position or a cell is one of the two.
 use Rattle.std.proofs.Common.{◌≡◌, ℕ, ◌<◌, ltb, ◌≢◌, List, length, get_or, set, sym, ap, ◌∙◌, inl, inr, arith, length-set, get_or-set_other, get_or-set_same}
 use Rattle.std.proofs.lemmas.Bool.{cases_eq}

@@ -2,7 +2,7 @@
 -- and it may stand above all that wait.
 use Rattle.std.proofs.Common.{◌≡◌, ℕ, ◌-◌, ◌<◌, ◌≤◌, Bool, ltb, ◌≢◌, List, length, get_or, sym, ap, ◌∙◌, inl, inr, arith}
 use Rattle.std.proofs.lemmas.Bool.{cases_eq, cases_lt, lt-ltb, le-ltb}
-use Rattle.tree_queue.specs.Order.{IsTree, IsExchange, SameWait, IsSinking, IsAhead}
+use Rattle.tree_queue.specs.Order.{IsTree, IsExchange, SameWait, IsAhead}
 use Rattle.tree_queue.specs.Queues.{waits_of}
 use Rattle.subject.specs.Queues.{IsTaken}
 use Rattle.tree_queue.proofs.Sink.{top_ahead}
@@ -23,17 +23,6 @@ not_before a b len same h =
 
 module _ {C : Type 0} {up down : ℕ → ℕ} (t : IsTree up down) {rank : C → C → Bool} {n len : ℕ} {ch : List C} {cs ps cs' ps' : List ℕ}
     (o : IsOrdered up rank n ch cs ps len) (hl : 0 < len) (e : IsExchange cs ps cs' ps' 0 (len - 1)) where
-  pub sinking : IsSinking up (IsAhead rank ch) cs' (len - 1) 0
-  sinking = record {
-    others = λ k h b np d.
-        let u = t.earlier k h in
-        let s = e.else k (λ q. omega arith) (λ q. omega arith) in
-        let v = e.else (up k) np (λ q. omega arith) in
-        let r = o.arranged k h (omega arith) d in
-        cc;
-    across = λ k h b z q. absurd (omega arith);
-  }
-
   others_stay : OthersStay n (get_or cs 0 0) ps len ps' (len - 1)
   others_stay k h ne =
       let w = o.len_in_rows in
