@@ -1,30 +1,73 @@
--- What an answer says of a call, given what waited before it and what waits after it. Stands on what queue calls do.
-use Rattle.std.specs.Prelude.{◌≡◌, ℕ, ◌<◌, ◌≤◌, ◌⊎◌, None, Some, Option, Ok, Err}
+-- What an answer says of a call on a queue. Stands on what queue calls do.
+use Rattle.std.specs.Prelude.{◌≡◌, ℕ, ◌<◌, ◌≤◌, ◌⊎◌, List, [], ◌∷◌, None, Some, Option, Ok, Err}
 use Rattle.subject.specs.declared.money.Money.{Money}
-use Rattle.subject.specs.Moneys.{of_cents, amount, money_no_more}
+use Rattle.subject.specs.declared.queue.PriorityQueue.{Ghosts as QueueGhosts}
 use Rattle.subject.specs.declared.refusal.Refusal.TheVariants.{NoSuchCell}
-use Rattle.subject.specs.Queues.{IsPut, IsTaken}
+use Rattle.subject.specs.Moneys.{of_cents, amount, money_no_more}
+use Rattle.subject.specs.Queues.{IsPut, IsTaken, NoneWaits}
 use Rattle.queue_cases.specs.declared.call.Call.{Call}
-use Rattle.queue_cases.specs.declared.call.Call.TheVariants.{Rows as ToRows, IsPut as ToPut, Take as ToTake, Empty as ToEmpty}
+use Rattle.queue_cases.specs.declared.call.Line.{Line}
+use Rattle.queue_cases.specs.declared.call.Call.TheVariants.{Rows as ToRows, Put as ToPut}
+use Rattle.queue_cases.specs.declared.call.Call.TheVariants.{Take as ToTake, Empty as ToEmpty}
 use Rattle.queue_cases.specs.declared.answer.Answer.{Answer}
-use Rattle.queue_cases.specs.declared.answer.Answer.TheVariants.{Rows as HasRows, IsPut as DidPut, Took, Emptied}
+use Rattle.queue_cases.specs.declared.answer.Answer.TheVariants.{Rows as HasRows, Put as DidPut, Took, Emptied}
+
+-- what waits, by cell number
+abbrev pub Waits : Type 0
+Waits = ℕ → Option Money
 
 -- the same waits
-abbrev pub Same : (ℕ → Option Money) → (ℕ → Option Money) → Type 0
-Same before after = (k : ℕ) → after k ≡ before k
+abbrev pub SameWaits : Waits → Waits → Type 0
+SameWaits before after = (k : ℕ) → after k ≡ before k
 
--- `n` rows: a cell below waits then, and any other is refused
-abbrev pub PutAnswered : ℕ → (ℕ → Option Money) → (ℕ → Option Money) → ℕ → Money → Answer → Type 0
-PutAnswered n before after cell charge r =
-    ((r ≡ DidPut (Ok tt)) × (cell < n) × IsPut before after cell charge) ⊎ ((r ≡ DidPut (Err NoSuchCell)) × (n ≤ cell) × Same before after)
+-- of `n` rows: a cell below waits then, and any other is refused
+abbrev pub IsPutAnswer : ℕ → Waits → Waits → ℕ → Money → Answer → Type 0
+IsPutAnswer n before after cell charge r =
+    ((r ≡ DidPut (Ok tt)) × (cell < n) × IsPut before after cell charge)
+    ⊎ ((r ≡ DidPut (Err NoSuchCell)) × (n ≤ cell) × SameWaits before after)
 
 -- a lowest charge is taken, or none waits
-abbrev pub TakeAnswered : (ℕ → Option Money) → (ℕ → Option Money) → Answer → Type 0
-TakeAnswered before after r =
-    ((cell : ℕ) × (charge : Money) × (r ≡ Took (Some (amount charge))) × IsTaken money_no_more before after cell charge) ⊎ ((r ≡ Took None) × ((k : ℕ) → before k ≡ None) × Same before after)
+abbrev pub IsTakeAnswer : Waits → Waits → Answer → Type 0
+IsTakeAnswer before after r =
+    ((cell : ℕ) × (charge : Money) × (r ≡ Took (Some (amount charge))) × IsTaken money_no_more before after cell charge)
+    ⊎ ((r ≡ Took None) × NoneWaits before × SameWaits before after)
 
-abbrev pub Answered : ℕ → (ℕ → Option Money) → (ℕ → Option Money) → Call → Answer → Type 0
-Answered n before after (ToRows m) r = (r ≡ HasRows n) × Same before after
-Answered n before after (ToPut cell cents) r = PutAnswered n before after cell (of_cents cents) r
-Answered n before after ToTake r = TakeAnswered before after r
-Answered n before after ToEmpty r = (r ≡ Emptied) × ((k : ℕ) → after k ≡ None)
+abbrev pub IsAnswerOf : ℕ → Waits → Waits → Call → Answer → Type 0
+IsAnswerOf n before after (ToRows m) r = (r ≡ HasRows n) × SameWaits before after
+IsAnswerOf n before after (ToPut cell cents) r = IsPutAnswer n before after cell (of_cents cents) r
+IsAnswerOf n before after ToTake r = IsTakeAnswer before after r
+IsAnswerOf n before after ToEmpty r = (r ≡ Emptied) × NoneWaits after
+
+-- the answer of a queue to a call, given the queue before and after
+abbrev pub IsAnswer : {Q : Type 0} → QueueGhosts Q Money → Q → Q → Call → Answer → Type 0
+IsAnswer q before after call r = IsAnswerOf (q.rows before) (q.waits before) (q.waits after) call r
+
+-- the answer where there may be a call, of a queue of `n` rows: none where there is none
+abbrev pub IsAnswerIfAny : ℕ → Waits → Waits → Option Call → Option Answer → Type 0
+IsAnswerIfAny n before after None None = after ≡ before
+IsAnswerIfAny n before after (Some call) (Some answer) = IsAnswerOf n before after call answer
+IsAnswerIfAny n before after _ _ = ⊥
+
+pub record IsLineAnswer (n : ℕ) (before after : Waits) (line : Line) (r : Option Answer) : Type 0 where
+  pub to_call : IsAnswerIfAny n before after line.call r
+
+abbrev pub IsLineAnswerOn : {Q : Type 0} → QueueGhosts Q Money → Q → Q → Line → Option Answer → Type 0
+IsLineAnswerOn q before after line r = IsLineAnswer (q.rows before) (q.waits before) (q.waits after) line r
+
+-- the answers to lines in turn, each where the lines before it left the queue
+abbrev pub AreAnswers : ℕ → Waits → Waits → List Line → List (Option Answer) → Type 0
+AreAnswers n before after [] [] = after ≡ before
+AreAnswers n before after (line ∷ lines) (answer ∷ answers) =
+    (between : Waits) × IsLineAnswer n before between line answer × AreAnswers n between after lines answers
+AreAnswers n before after _ _ = ⊥
+
+-- the answers of a queue of `n` rows, in which `before` waits at first
+abbrev pub AreAnswersFrom : ℕ → Waits → List Line → List (Option Answer) → Type 0
+AreAnswersFrom n before lines answers = (after : Waits) × AreAnswers n before after lines answers
+
+abbrev pub AreAnswersOf : {Q : Type 0} → QueueGhosts Q Money → Q → List Line → List (Option Answer) → Type 0
+AreAnswersOf q before lines answers = AreAnswersFrom (q.rows before) (q.waits before) lines answers
+
+-- the answers of a queue of `n` rows in which no cell waits at first
+abbrev pub AreNewAnswers : ℕ → List Line → List (Option Answer) → Type 0
+AreNewAnswers n lines answers = (before : Waits) × NoneWaits before × AreAnswersFrom n before lines answers

@@ -1,29 +1,31 @@
-// One call on any queue for money, and its answer.
-ghost use Rattle.queue_cases.specs.Answers.{Answered};
+// Calls on any queue for money, and its answers.
+ghost use Rattle.std.specs.Prelude.{◌≡◌, IfOk};
+ghost use Rattle.queue_cases.specs.Answers.{IsAnswer, IsLineAnswerOn, AreAnswersOf};
 
-use crate::call::Call;
+use crate::call::{Call, Line};
+use std::alloc::{AllocError, Global};
+use std::fmt;
 use subject::money::Money;
 use subject::queue::PriorityQueue;
 use subject::refusal::Refusal;
-use std::fmt;
 
-// what a queue answers to a call
+/// What a queue answers to a call.
 #[derive(Clone, Copy, PartialEq, Eq)]
 pub enum Answer {
-    // how many rows there are
+    /// how many rows there are
     Rows(usize),
-    // the cell waits, or the call is refused, and nothing has changed
+    /// the cell waits, or the call is refused, and nothing has changed
     Put(Result<(), Refusal>),
-    // a charge that means so many cents was taken, or no cell waits
+    /// a charge that means so many cents was taken, or no cell waits
     Took(Option<u64>),
-    // now no cell waits
+    /// now no cell waits
     Emptied,
 }
 
 impl fmt::Display for Answer {
     fn fmt<W: fmt::Write>(&self, f: &mut fmt::Formatter<W>) -> fmt::Result {
         match *self {
-            Answer::Rows(many) => write!(f, "ROWS {many}"),
+            Answer::Rows(count) => write!(f, "ROWS {count}"),
             Answer::Put(Ok(())) => write!(f, "PUT"),
             Answer::Put(Err(refusal)) => write!(f, "REFUSED {refusal}"),
             Answer::Took(Some(cents)) => write!(f, "TOOK {cents}"),
@@ -33,20 +35,46 @@ impl fmt::Display for Answer {
     }
 }
 
-// The answer of a queue to a call. To be asked for rows it only tells how many it has. (The calls are what the caller gives, as
-// data, so one match says what each comes to.)
+/// The answer of a queue to a call. Asked for rows, it only says how many it has.
 pub fn ask<Q: PriorityQueue<Charge = Money>>(queue: &mut Q, call: Call) -> Answer
-    requires { Q.PriorityQueue.ordered queue.old }
-    ensures ordered { Q.PriorityQueue.ordered queue.new }
-    ensures answer { Answered (Q.PriorityQueue.many queue.old) (Q.PriorityQueue.waits queue.old) (Q.PriorityQueue.waits queue.new) call result }
+    requires { Q.PriorityQueue.is_ordered queue.old }
+    ensures ordered { Q.PriorityQueue.is_ordered queue.new }
+    ensures rows { Q.PriorityQueue.rows queue.new ≡ Q.PriorityQueue.rows queue.old }
+    ensures answer { IsAnswer Q.PriorityQueue queue.old queue.new call result }
 {
     match call {
         Call::Rows(_) => Answer::Rows(Q::rows(queue)),
         Call::Put(cell, cents) => Answer::Put(queue.put(cell, Money { cents })),
-        Call::Take => Answer::Took(queue.take().map(|(_, charge)| charge.counted())),
+        Call::Take => Answer::Took(queue.take().map(|(_, charge)| charge.amount())),
         Call::Empty => {
             queue.clear();
             Answer::Emptied
         }
     }
+}
+
+// The answer of a queue to the call on a line, or none where there is no call.
+fn ask_line<Q: PriorityQueue<Charge = Money>>(queue: &mut Q, line: &Line) -> Option<Answer>
+    requires { Q.PriorityQueue.is_ordered queue.old }
+    ensures ordered { Q.PriorityQueue.is_ordered queue.new }
+    ensures rows { Q.PriorityQueue.rows queue.new ≡ Q.PriorityQueue.rows queue.old }
+    ensures answer { IsLineAnswerOn Q.PriorityQueue queue.old queue.new line.now result }
+{
+    Some(ask(queue, line.call?))
+}
+
+/// The answers of a queue to the lines in turn, none for a line that has no call.
+pub fn ask_all<Q: PriorityQueue<Charge = Money> + Drop>(
+    alloc: Global,
+    mut queue: Q,
+    lines: &[Line],
+) -> Result<Vec<Option<Answer>>, AllocError>
+    requires { Q.PriorityQueue.is_ordered queue }
+    ensures { IfOk result (λ v. AreAnswersOf Q.PriorityQueue queue lines.now v.items) }
+{
+    let mut answers = Vec::new(alloc);
+    for line in lines {
+        answers.push(ask_line(&mut queue, line))?;
+    }
+    Ok(answers)
 }

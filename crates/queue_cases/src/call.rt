@@ -1,20 +1,20 @@
-// The lines of the text: each one call, or nothing that can be read.
+// The lines of the text: each one call, or one that cannot be read.
 use std::alloc::{AllocError, Global};
 
-// a call of a queue
+/// A call of a queue.
 #[derive(Clone, Copy)]
 pub enum Call {
-    // start over with that many rows
+    /// start over with that many rows
     Rows(usize),
-    // put a cell with that many cents
+    /// put a cell with that many cents
     Put(usize, u64),
-    // take a lowest
+    /// take a lowest
     Take,
-    // let no cell wait
+    /// let no cell wait
     Empty,
 }
 
-// a line by its number, which begins at 1, and the call on it, or none where it cannot be read
+/// A line by its number, which begins at 1, and the call on it, or none where it cannot be read.
 #[derive(Clone, Copy)]
 pub struct Line {
     pub number: u64,
@@ -22,7 +22,7 @@ pub struct Line {
 }
 
 impl Line {
-    // Whether the line starts over with other rows.
+    /// Whether the line starts over with other rows.
     pub fn starts_block(&self) -> bool {
         matches!(self.call, Some(Call::Rows(_)))
     }
@@ -49,13 +49,13 @@ fn read_call(text: &str) -> Option<Call> {
     Some(call)
 }
 
-// All lines, numbered.
-pub fn read_lines(heap: Global, text: &str) -> Result<Vec<Line>, AllocError> {
+/// All lines, numbered.
+pub fn read_lines(alloc: Global, text: &str) -> Result<Vec<Line>, AllocError> {
     text.lines()
         .zip(1..)
         .map(|(line, number)| Line {
             number,
             call: read_call(line),
         })
-        .collect(heap)
+        .collect(alloc)
 }

@@ -1,16 +1,13 @@
-// The calls of the text on two queues, block by block: each "rows R" starts a block with fresh rows.
-ghost use Rattle.std.specs.Prelude.{◌≡◌, ◌+◌, min, if◌then◌else◌};
+// The lines of the text on a queue of each kind, block by block: each "rows R" starts a block with fresh rows.
+ghost use Rattle.std.specs.Prelude.{◌≡◌, if◌then◌else◌};
+ghost use Rattle.queue_cases.specs.Counts.{count_after};
 
-use crate::answer::ask;
+use crate::answer::Answer;
 use crate::call::{Call, Line};
-use subject::money::Money;
-use tree_queue::heap::Heap;
-use tree_queue::ordered_row::OrderedRow;
-use search::owned::Filling;
-use subject::queue::PriorityQueue;
+use crate::kind::{ALL_QUEUES, KINDS};
 use std::{fmt, io};
 
-// to how many calls both queues answered alike, and to how many not
+/// To how many calls all queues answered alike, and to how many not.
 #[derive(Clone, Copy)]
 pub struct Tally {
     pub agreed: u64,
@@ -20,8 +17,8 @@ pub struct Tally {
 impl Tally {
     // One more call.
     fn count(&mut self, same: bool)
-        ensures agreed { self.new.agreed ≡ (if same then min (self.old.agreed + 1) 18446744073709551615 else self.old.agreed) }
-        ensures differed { self.new.differed ≡ (if same then self.old.differed else min (self.old.differed + 1) 18446744073709551615) }
+        ensures agreed { self.new.agreed ≡ (if same then count_after self.old.agreed else self.old.agreed) }
+        ensures differed { self.new.differed ≡ (if same then self.old.differed else count_after self.old.differed) }
     {
         if same {
             self.agreed = self.agreed.saturating_add(1);
@@ -36,14 +33,15 @@ impl fmt::Display for Tally {
         let agreed = self.agreed;
         let differed = self.differed;
         let calls = agreed.saturating_add(differed);
+        let queues = ALL_QUEUES;
         write!(
             f,
-            "{calls} calls on both queues: {agreed} agreed, {differed} differed"
+            "{calls} calls on {queues}: {agreed} agreed, {differed} differed"
         )
     }
 }
 
-// Plays calls, prints as it goes, and counts how they were answered.
+// Plays lines, prints as it goes, and counts how they were answered.
 #[derive(Drop)]
 struct Player<'a> {
     rt: &'a HostRuntime,
@@ -51,63 +49,45 @@ struct Player<'a> {
 }
 
 impl Player<'_> {
-    // One call on both queues: prints the first answer and SAME, or OTHER and the second answer. The order of each queue's rows
-    // stays a `requires`: tried as ghost fields of a pair of queues, it is refused, since of a queue by its bound it is not
-    // known that its order is a proposition.
-    fn play<P: PriorityQueue<Charge = Money>, Q: PriorityQueue<Charge = Money>>(
-        &mut self,
-        first: &mut P,
-        second: &mut Q,
-        call: Call,
-    ) -> io::Result<()>
-        requires first { P.PriorityQueue.ordered first.old }
-        requires second { Q.PriorityQueue.ordered second.old }
-        ensures first { P.PriorityQueue.ordered first.new }
-        ensures second { Q.PriorityQueue.ordered second.new }
-    {
-        let a = ask(first, call);
-        let b = ask(second, call);
-        self.tally.count(a == b);
-        if a == b {
-            println!(self.rt; "{a} SAME")
-        } else {
-            println!(self.rt; "{a} OTHER {b}")
+    // The answers to one line: the first and SAME, or the first, OTHER and those that differ from it. A line
+    // that no queue answers cannot be read.
+    fn print(&mut self, number: u64, answers: &[Answer]) -> io::Result<()> {
+        let Some((first, others)) = answers.split_first() else {
+            return println!(self.rt; "LINE {number} CANNOT BE READ");
+        };
+        let same = others.iter().all(|other| other == first);
+        self.tally.count(same);
+        if same {
+            return println!(self.rt; "{first} SAME");
         }
-    }
-
-    // The lines of one block on both queues.
-    fn play_all<P: PriorityQueue<Charge = Money>, Q: PriorityQueue<Charge = Money>>(
-        &mut self,
-        first: &mut P,
-        second: &mut Q,
-        lines: &[Line],
-    ) -> io::Result<()>
-        requires first { P.PriorityQueue.ordered first.old }
-        requires second { Q.PriorityQueue.ordered second.old }
-    {
-        for line in lines {
-            let number = line.number;
-            match line.call {
-                Some(call) => self.play(first, second, call)?,
-                None => println!(self.rt; "LINE {number} CANNOT BE READ")?,
+        print!(self.rt; "{first} OTHER")?;
+        for other in others {
+            if other != first {
+                print!(self.rt; " {other}")?;
             }
         }
-        Ok(())
+        println!(self.rt; "")
     }
 
-    // A block of lines that begins with the number of rows, which hold whatever was there before.
-    fn play_block(&mut self, many: usize, lines: &[Line]) -> anyhow::Result<()> {
-        let used = Filling::used().slot;
-        let mut heap_rows = vec![in self.rt.alloc(); used; many]?;
-        let mut ordered_rows = vec![in self.rt.alloc(); used; many]?;
-        let mut heap = Heap::over(heap_rows.as_mut_slice());
-        let mut row = OrderedRow::over(ordered_rows.as_mut_slice());
-        self.play_all(&mut heap, &mut row, lines)?;
+    // A block of lines that begins with the number of rows.
+    fn play_block(&mut self, row_count: usize, lines: &[Line]) -> anyhow::Result<()> {
+        let alloc = self.rt.alloc();
+        let mut of_kinds = Vec::new(alloc);
+        for kind in KINDS {
+            of_kinds.push(kind.answers(alloc, row_count, lines)?)?;
+        }
+        for (i, line) in lines.iter().enumerate() {
+            let answers: Vec<Answer> = of_kinds
+                .iter()
+                .filter_map(|answers| answers.get(i).copied().flatten())
+                .collect(alloc)?;
+            self.print(line.number, &answers)?;
+        }
         Ok(())
     }
 }
 
-// All lines, block by block.
+/// All lines, block by block.
 pub fn replay(rt: &HostRuntime, lines: &[Line]) -> anyhow::Result<Tally> {
     let mut player = Player {
         rt,
@@ -122,7 +102,7 @@ pub fn replay(rt: &HostRuntime, lines: &[Line]) -> anyhow::Result<Tally> {
         };
         let number = first.number;
         match first.call {
-            Some(Call::Rows(many)) => player.play_block(many, block)?,
+            Some(Call::Rows(row_count)) => player.play_block(row_count, block)?,
             _ => println!(rt;
                 "LINE {number} DOES NOT SAY HOW MANY ROWS, SO ITS BLOCK IS LEFT OUT"
             )?,

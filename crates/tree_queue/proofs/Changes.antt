@@ -6,16 +6,16 @@ use Rattle.std.proofs.lemmas.Grind.{common_steps}
 use Rattle.std.proofs.lemmas.Option.{gets, slice_get-get_or, slice_get_past}
 use Rattle.subject.specs.Queues.{IsPut, IsTaken}
 use Rattle.tree_queue.specs.Order.{IsPlacement, IsAhead}
-use Rattle.tree_queue.specs.Waiting.{waits_of}
+use Rattle.tree_queue.specs.Queues.{waits_of}
 
-pub nth_set_other : {X : Type 0} (xs : List X) (i k : ℕ) (a : X) → k ≢ i → slice_get (set xs i a) k ≡ slice_get xs k
-nth_set_other xs i k a ne = grind (arith, common_steps, gets)
+get_set_other : {X : Type 0} (xs : List X) (i k : ℕ) (a : X) → k ≢ i → slice_get (set xs i a) k ≡ slice_get xs k
+get_set_other xs i k a ne = grind (arith, common_steps, gets)
 
 none : {X : Type 0} (b : Bool) → cond {A = Option X} b None None ≡ None
 none true = refl
 none false = refl
 
--- every cell below `n` but `cell` stands on the same side of the length as before
+-- every cell below `n` but `cell` is on the same side of the length as before
 abbrev pub OthersStay : ℕ → ℕ → List ℕ → ℕ → List ℕ → ℕ → Type 0
 OthersStay n cell ps len ps' len' = (k : ℕ) → k < n → k ≢ cell → ltb (get_or ps' k 0) len' ≡ ltb (get_or ps k 0) len
 
@@ -31,11 +31,11 @@ module _ {C : Type 0} (n cell : ℕ) (ch : List C) (lch : length ch ≡ n) (ps :
   pub put : (x : C) → cell < n → get_or ps' cell 0 < len' → IsPut (waits_of ch ps len) (waits_of (set ch cell x) ps' len') cell x
   put x hc before = record {
     here = ap (λ b. cond b (slice_get (set ch cell x) cell) None) (lt-ltb _ len' before) ∙ slice_get-get_or (set ch cell x) cell x (simp length-set (omega arith)) ∙ ap Some (get_or-set_same ch cell x x (omega arith));
-    others = λ k ne. ap (λ v. cond (ltb (get_or ps' k 0) len') v None) (nth_set_other ch cell k x ne) ∙ others k ne;
+    others = λ k ne. ap (λ v. cond (ltb (get_or ps' k 0) len') v None) (get_set_other ch cell k x ne) ∙ others k ne;
   }
 
-  module _ (within : C → C → Bool) (cs : List ℕ) (p : IsPlacement n cs ps) (v : C) (hv : (d : C) → v ≡ get_or ch cell d) (ahead : (k : ℕ) → k < len → IsAhead within ch cell (get_or cs k 0)) where
-    least : (k : ℕ) (c : C) → waits_of ch ps len k ≡ Some c → within v c ≡ true
+  module _ (rank : C → C → Bool) (cs : List ℕ) (p : IsPlacement n cs ps) (v : C) (hv : (d : C) → v ≡ get_or ch cell d) (ahead : (k : ℕ) → k < len → IsAhead rank ch cell (get_or cs k 0)) where
+    least : (k : ℕ) (c : C) → waits_of ch ps len k ≡ Some c → rank v c ≡ true
     least k c w =
         elim (cases_lt k n) [
           | inr g ↦
@@ -57,7 +57,7 @@ module _ {C : Type 0} (n cell : ℕ) (ch : List C) (lch : length ch ≡ n) (ps :
           ]
         ]
 
-    pub taken : cell < n → get_or ps cell 0 < len → len' ≤ get_or ps' cell 0 → IsTaken within (waits_of ch ps len) (waits_of ch ps' len') cell v
+    pub taken : cell < n → get_or ps cell 0 < len → len' ≤ get_or ps' cell 0 → IsTaken rank (waits_of ch ps len) (waits_of ch ps' len') cell v
     taken hc waited gone = record {
       waited = ap (λ b. cond b (slice_get ch cell) None) (lt-ltb _ len waited) ∙ slice_get-get_or ch cell v (omega arith) ∙ ap Some (sym (hv v));
       least = least;

@@ -1,12 +1,12 @@
--- One step up the tree keeps a cell rising, and the rise ends arranged: by cases on whether a position or the one above
--- it took part in the exchange. Of the relation only transitivity counts.
+-- One step up the tree keeps a cell rising: by cases on whether a position or the one above it took part in the
+-- exchange. Of the relation only transitivity counts.
 use Rattle.std.proofs.Common.{◌≡◌, ℕ, ◌<◌, ◌≢◌, List, get_or, sym, refl, ap, ◌∙◌, inl, inr, arith}
 use Rattle.std.proofs.lemmas.Bool.{cases_eq}
 use Rattle.tree_queue.proofs.Related.{moved}
-use Rattle.tree_queue.specs.Order.{IsTree, IsExchange, IsRising, IsArranged}
+use Rattle.tree_queue.specs.Order.{IsTree, IsExchange, IsRising}
 
-module _ (up down : ℕ → ℕ) (t : IsTree up down) (R : ℕ → ℕ → Type 0) (trans : (a b c : ℕ) → R a b → R b c → R a c) where
-  module _ (cs ps cs' ps' : List ℕ) (len i : ℕ) (pos : 0 < i) (below : i < len) (x : IsExchange cs ps cs' ps' (up i) i) (r : IsRising up R cs len i) (less : R (get_or cs i 0) (get_or cs (up i) 0)) where
+module _ {up down : ℕ → ℕ} (t : IsTree up down) {R : ℕ → ℕ → Type 0} (trans : (a b c : ℕ) → R a b → R b c → R a c) where
+  module _ {cs ps cs' ps' : List ℕ} {len i : ℕ} (pos : 0 < i) (below : i < len) (x : IsExchange cs ps cs' ps' (up i) i) (r : IsRising up R cs len i) (less : R (get_or cs i 0) (get_or cs (up i) 0)) where
     -- another position below the one above `i`
     beside : (k : ℕ) → 0 < k → k < len → k ≢ i → up k ≡ up i → R (get_or cs (up i) 0) (get_or cs k 0)
     beside k h b ni e = moved R (ap (λ m. get_or cs m 0) (sym e)) refl (r.others k h b ni)
@@ -40,11 +40,3 @@ module _ (up down : ℕ → ℕ) (t : IsTree up down) (R : ℕ → ℕ → Type 
 
     pub risen : IsRising up R cs' len (up i)
     risen = record { others = others'; across = across' }
-
-  -- the rise ends: what stands above may stand there
-  pub settled : (cs : List ℕ) (len i : ℕ) → IsRising up R cs len i → R (get_or cs (up i) 0) (get_or cs i 0) → IsArranged up R cs len
-  settled cs len i r stands k h b =
-      elim (cases_eq k i) [
-        | inl e ↦ moved R (ap (λ m. get_or cs (up m) 0) e) (ap (λ m. get_or cs m 0) e) stands
-        | inr ni ↦ r.others k h b ni
-      ]

@@ -11,9 +11,9 @@ module _ {A B : Type 0} (f : A → B) where
   read rows i d e h = sym (get_or-map f rows i d e h)
 
 module _ {C : Type 0} (rows : List (QueueRow C)) (i : ℕ) (d : QueueRow C) where
-  -- the cell that stands at a position is one of the cells
-  pub stands : IsPlacement (length rows) (cells rows) (positions rows) → i < length rows → (get_or rows i d).cell < length rows
-  stands p h = let e = read (λ s. s.cell) rows i d 0 h in let w = p.cell_within i h in omega arith
+  -- the cell at a position is the number of a row
+  pub cell_inside : IsPlacement (length rows) (cells rows) (positions rows) → i < length rows → (get_or rows i d).cell < length rows
+  cell_inside p h = let e = read (λ s. s.cell) rows i d 0 h in let w = p.cell_in i h in omega arith
 
   pub cell_of : i < length rows → (get_or rows i d).cell ≡ get_or (cells rows) i 0
   cell_of h = read (λ s. s.cell) rows i d 0 h
@@ -25,42 +25,44 @@ module _ {C : Type 0} (rows : List (QueueRow C)) (i : ℕ) (d : QueueRow C) wher
   charge_of e h = read (λ s. s.charge) rows i d e h
 
   -- row `i` with another charge, cell or position
-  abbrev pub charged : C → List (QueueRow C)
-  charged c = let s = get_or rows i d in set rows i (record { charge = c; cell = s.cell; position = s.position })
+  abbrev pub with_charge : C → List (QueueRow C)
+  with_charge c = let s = get_or rows i d in set rows i (record { charge = c; cell = s.cell; position = s.position })
 
-  abbrev pub held : ℕ → List (QueueRow C)
-  held b = let s = get_or rows i d in set rows i (record { charge = s.charge; cell = b; position = s.position })
+  abbrev pub with_cell : ℕ → List (QueueRow C)
+  with_cell b = let s = get_or rows i d in set rows i (record { charge = s.charge; cell = b; position = s.position })
 
-  abbrev pub standing_at : ℕ → List (QueueRow C)
-  standing_at b = let s = get_or rows i d in set rows i (record { charge = s.charge; cell = s.cell; position = b })
+  abbrev pub with_position : ℕ → List (QueueRow C)
+  with_position b = let s = get_or rows i d in set rows i (record { charge = s.charge; cell = s.cell; position = b })
 
-  pub charges-charged : (c : C) → charges (charged c) ≡ set (charges rows) i c
-  charges-charged c = map-set _ rows i _
+  pub charges-with_charge : (c : C) → charges (with_charge c) ≡ set (charges rows) i c
+  charges-with_charge c = map-set _ rows i _
 
-  pub cells-charged : (c : C) → cells (charged c) ≡ cells rows
-  cells-charged c = map-set_same _ rows i _ d refl
+  pub cells-with_charge : (c : C) → cells (with_charge c) ≡ cells rows
+  cells-with_charge c = map-set_same _ rows i _ d refl
 
-  pub positions-charged : (c : C) → positions (charged c) ≡ positions rows
-  positions-charged c = map-set_same _ rows i _ d refl
+  pub positions-with_charge : (c : C) → positions (with_charge c) ≡ positions rows
+  positions-with_charge c = map-set_same _ rows i _ d refl
 
-  pub charges-held : (b : ℕ) → charges (held b) ≡ charges rows
-  charges-held b = map-set_same _ rows i _ d refl
+  pub charges-with_cell : (b : ℕ) → charges (with_cell b) ≡ charges rows
+  charges-with_cell b = map-set_same _ rows i _ d refl
 
-  pub cells-held : (b : ℕ) → cells (held b) ≡ set (cells rows) i b
-  cells-held b = map-set _ rows i _
+  pub cells-with_cell : (b : ℕ) → cells (with_cell b) ≡ set (cells rows) i b
+  cells-with_cell b = map-set _ rows i _
 
-  pub positions-held : (b : ℕ) → positions (held b) ≡ positions rows
-  positions-held b = map-set_same _ rows i _ d refl
+  pub positions-with_cell : (b : ℕ) → positions (with_cell b) ≡ positions rows
+  positions-with_cell b = map-set_same _ rows i _ d refl
 
-  pub charges-standing_at : (b : ℕ) → charges (standing_at b) ≡ charges rows
-  charges-standing_at b = map-set_same _ rows i _ d refl
+  pub charges-with_position : (b : ℕ) → charges (with_position b) ≡ charges rows
+  charges-with_position b = map-set_same _ rows i _ d refl
 
-  pub cells-standing_at : (b : ℕ) → cells (standing_at b) ≡ cells rows
-  cells-standing_at b = map-set_same _ rows i _ d refl
+  pub cells-with_position : (b : ℕ) → cells (with_position b) ≡ cells rows
+  cells-with_position b = map-set_same _ rows i _ d refl
 
-  pub positions-standing_at : (b : ℕ) → positions (standing_at b) ≡ set (positions rows) i b
-  positions-standing_at b = map-set _ rows i _
+  pub positions-with_position : (b : ℕ) → positions (with_position b) ≡ set (positions rows) i b
+  positions-with_position b = map-set _ rows i _
 
-pub ruleset columns = (charges-charged, cells-charged, positions-charged, charges-held, cells-held, positions-held, charges-standing_at, cells-standing_at, positions-standing_at)
+pub ruleset columns = (charges-with_charge, cells-with_charge, positions-with_charge, charges-with_cell, cells-with_cell, positions-with_cell, charges-with_position, cells-with_position, positions-with_position)
 
-pub ruleset reads = (stands, cell_of, position_of, charge_of)
+pub ruleset on_rows = (cell_inside)
+
+pub ruleset reads = (cell_inside, cell_of, position_of, charge_of)

@@ -2,6 +2,7 @@ pub mod Columns
 pub mod Ranks
 pub mod Related
 pub mod Swaps
+pub mod Ordered
 pub mod Climb
 pub mod Sink
 pub mod Changes

@@ -1,20 +1,24 @@
--- A comparison that is total and transitive is so when it is turned round, and holds of a charge and itself.
+-- The comparison of charges, turned round or not, is total and transitive; so it holds of a charge and itself, and cells
+-- that may be above one another along a tree may be so across it.
 use Rattle.std.proofs.Common.{◌≡◌, ℕ, Bool, true, false, List, get_or, inl, inr}
 use Rattle.std.proofs.lemmas.Bool.{cases_Bool}
-use Rattle.tree_queue.specs.Order.{IsAhead, ranked}
+use Rattle.subject.specs.Charges.{Kind, Laws}
+use Rattle.tree_queue.specs.Order.{IsAhead, may_be_above}
 
-module _ {C : Type 0} (within : C → C → Bool) where
-  pub ranked_transitive : ((a b c : C) → within a b ≡ true → within b c ≡ true → within a c ≡ true) → (turned : Bool) (a b c : C) → ranked turned within a b ≡ true → ranked turned within b c ≡ true → ranked turned within a c ≡ true
-  ranked_transitive trans true a b c p q = trans c b a q p
-  ranked_transitive trans false a b c p q = trans a b c p q
+pub record IsRank {C : Type 0} (rank : C → C → Bool) : Type 0 where
+  pub total : (a b : C) → rank a b ≡ false → rank b a ≡ true
+  pub transitive : (a b c : C) → rank a b ≡ true → rank b c ≡ true → rank a c ≡ true
 
-  pub ranked_total : ((a b : C) → within a b ≡ false → within b a ≡ true) → (turned : Bool) (a b : C) → ranked turned within a b ≡ false → ranked turned within b a ≡ true
-  ranked_total total true a b p = total b a p
-  ranked_total total false a b p = total a b p
+pub ranks : {C : Type 0} {k : Kind C} → Laws k → (highest_on_top : Bool) → IsRank (may_be_above highest_on_top k.no_more)
+ranks laws true = record { total = λ a b p. laws.total b a p; transitive = λ a b c p q. laws.transitive c b a q p }
+ranks laws false = record { total = λ a b p. laws.total a b p; transitive = λ a b c p q. laws.transitive a b c p q }
 
-  pub itself : ((a b : C) → within a b ≡ false → within b a ≡ true) → (a : C) → within a a ≡ true
-  itself total a = elim (cases_Bool (within a a)) [ inl t ↦ t | inr f ↦ total a a f ]
+module _ {C : Type 0} {rank : C → C → Bool} (r : IsRank rank) where
+  pub itself : (a : C) → rank a a ≡ true
+  itself a = elim (cases_Bool (rank a a)) [ inl t ↦ t | inr f ↦ r.total a a f ]
 
-  -- so cells that may stand above one another along a chain may across it
-  pub ahead_transitive : ((a b c : C) → within a b ≡ true → within b c ≡ true → within a c ≡ true) → (turned : Bool) (ch : List C) (a b c : ℕ) → IsAhead (ranked turned within) ch a b → IsAhead (ranked turned within) ch b c → IsAhead (ranked turned within) ch a c
-  ahead_transitive trans turned ch a b c p q d = ranked_transitive trans turned (get_or ch a d) (get_or ch b d) (get_or ch c d) (p d) (q d)
+  pub ahead_itself : (ch : List C) (a : ℕ) → IsAhead rank ch a a
+  ahead_itself ch a d = itself (get_or ch a d)
+
+  pub ahead_transitive : (ch : List C) (a b c : ℕ) → IsAhead rank ch a b → IsAhead rank ch b c → IsAhead rank ch a c
+  ahead_transitive ch a b c p q d = r.transitive (get_or ch a d) (get_or ch b d) (get_or ch c d) (p d) (q d)

@@ -5,8 +5,8 @@ use Rattle.std.proofs.lemmas.Bool.{cases_eq}
 use Rattle.tree_queue.proofs.Related.{moved}
 use Rattle.tree_queue.specs.Order.{IsTree, IsExchange, IsSinking, IsForemost, IsArranged}
 
-module _ (up down : ℕ → ℕ) (t : IsTree up down) (R : ℕ → ℕ → Type 0) (trans : (a b c : ℕ) → R a b → R b c → R a c) where
-  module _ (cs ps cs' ps' : List ℕ) (len i j : ℕ) (l : IsForemost up R cs len i j) (x : IsExchange cs ps cs' ps' i j) (s : IsSinking up R cs len i) (less : R (get_or cs j 0) (get_or cs i 0)) where
+module _ {up down : ℕ → ℕ} (t : IsTree up down) {R : ℕ → ℕ → Type 0} (trans : (a b c : ℕ) → R a b → R b c → R a c) where
+  module _ {cs ps cs' ps' : List ℕ} {len i j : ℕ} (l : IsForemost up R cs len i j) (x : IsExchange cs ps cs' ps' i j) (s : IsSinking up R cs len i) (less : R (get_or cs j 0) (get_or cs i 0)) where
     others' : (k : ℕ) → 0 < k → k < len → up k ≢ j → R (get_or cs' (up k) 0) (get_or cs' k 0)
     others' k h b np =
         let u = t.earlier k h in
@@ -15,7 +15,7 @@ module _ (up down : ℕ → ℕ) (t : IsTree up down) (R : ℕ → ℕ → Type 
           | inr nj ↦ elim (cases_eq (up k) i) [
             | inl e ↦ moved R (ap (λ m. get_or cs' m 0) e ∙ x.at_i) (x.else k (λ q. omega arith) nj) (l.low k h b e)
             | inr npi ↦ elim (cases_eq k i) [
-              | inl e ↦ moved R (x.else (up k) npi np ∙ ap (λ m. get_or cs (up m) 0) e) (ap (λ m. get_or cs' m 0) e ∙ x.at_i) (s.across j (omega (arith, l.after)) l.within (omega arith) l.child)
+              | inl e ↦ moved R (x.else (up k) npi np ∙ ap (λ m. get_or cs (up m) 0) e) (ap (λ m. get_or cs' m 0) e ∙ x.at_i) (s.across j (omega (arith, l.after)) l.before_len (omega arith) l.child)
               | inr ni ↦ moved R (x.else (up k) npi np) (x.else k ni nj) (s.others k h b npi)
             ]
           ]
@@ -32,10 +32,10 @@ module _ (up down : ℕ → ℕ) (t : IsTree up down) (R : ℕ → ℕ → Type 
     sunk = record { others = others'; across = across' }
 
   -- the fall ends: the foremost below may stand there
-  pub rests : (cs : List ℕ) (len i j : ℕ) → IsForemost up R cs len i j → IsSinking up R cs len i → R (get_or cs i 0) (get_or cs j 0) → IsArranged up R cs len
-  rests cs len i j l s stands k h b =
+  pub at_rest : {cs : List ℕ} {len i j : ℕ} → IsForemost up R cs len i j → IsSinking up R cs len i → R (get_or cs i 0) (get_or cs j 0) → IsArranged up R cs len
+  at_rest {cs = cs} {i = i} l s ahead k h b =
       elim (cases_eq (up k) i) [
-        | inl e ↦ moved R (ap (λ m. get_or cs m 0) e) refl (trans _ _ _ stands (l.low k h b e))
+        | inl e ↦ moved R (ap (λ m. get_or cs m 0) e) refl (trans _ _ _ ahead (l.low k h b e))
         | inr np ↦ s.others k h b np
       ]
 

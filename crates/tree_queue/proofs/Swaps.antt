@@ -1,4 +1,4 @@
--- An exchange of what stands at two positions keeps every cell at one position, and below a length who stands there:
+-- An exchange of what is at two positions keeps every cell at one position, and the same cells below a length:
 -- each claim by cases on whether a position or a cell is one of the two.
 use Rattle.std.proofs.Common.{◌≡◌, ℕ, ◌<◌, ltb, ◌≢◌, List, length, get_or, set, sym, ap, ◌∙◌, inl, inr, arith, length-set, get_or-set_other, get_or-set_same}
 use Rattle.std.proofs.lemmas.Bool.{cases_eq}
@@ -18,13 +18,13 @@ two_first xs i j x y h same =
 two_else : (xs : List ℕ) (i j x y k : ℕ) → k ≢ i → k ≢ j → get_or (set (set xs i x) j y) k 0 ≡ get_or xs k 0
 two_else xs i j x y k p q = get_or-set_other (set xs i x) j k y 0 q ∙ get_or-set_other xs i k x 0 p
 
-pub exchanged : (n : ℕ) (cs ps : List ℕ) (i j : ℕ) → IsPlacement n cs ps → i < n → j < n
+pub exchange : {n : ℕ} {cs ps : List ℕ} {i j : ℕ} → IsPlacement n cs ps → i < n → j < n
     → IsExchange cs ps (set (set cs i (get_or cs j 0)) j (get_or cs i 0)) (set (set ps (get_or cs j 0) i) (get_or cs i 0) j) i j
-exchanged n cs ps i j p hi hj =
-    let lc = p.many_cells in
-    let lp = p.many_positions in
-    let ai = p.cell_within i hi in
-    let aj = p.cell_within j hj in
+exchange {cs = cs} {ps = ps} {i = i} {j = j} p hi hj =
+    let lc = p.cell_count in
+    let lp = p.position_count in
+    let ai = p.cell_in i hi in
+    let aj = p.cell_in j hj in
     let ti = p.there i hi in
     let tj = p.there j hj in
     record {
@@ -36,12 +36,12 @@ exchanged n cs ps i j p hi hj =
       pos_else = λ k na nb. two_else ps _ _ i j k nb na;
     }
 
-module _ (n : ℕ) (cs ps cs' ps' : List ℕ) (i j : ℕ) (p : IsPlacement n cs ps) (hi : i < n) (hj : j < n) (x : IsExchange cs ps cs' ps' i j) where
-  cell_in : (k : ℕ) → k < n → get_or cs' k 0 < n
-  cell_in k h =
-      let a = p.cell_within i hi in
-      let b = p.cell_within j hj in
-      let o = p.cell_within k h in
+module _ {n : ℕ} {cs ps cs' ps' : List ℕ} {i j : ℕ} (p : IsPlacement n cs ps) (hi : i < n) (hj : j < n) (x : IsExchange cs ps cs' ps' i j) where
+  cell_in' : (k : ℕ) → k < n → get_or cs' k 0 < n
+  cell_in' k h =
+      let a = p.cell_in i hi in
+      let b = p.cell_in j hj in
+      let o = p.cell_in k h in
       elim (cases_eq k i) [
         | inl e ↦ let f : get_or cs' k 0 ≡ get_or cs j 0 = ap (λ m. get_or cs' m 0) e ∙ x.at_i in omega arith
         | inr ni ↦ elim (cases_eq k j) [
@@ -64,9 +64,9 @@ module _ (n : ℕ) (cs ps cs' ps' : List ℕ) (i j : ℕ) (p : IsPlacement n cs 
         ]
       ]
 
-  pos_in : (k : ℕ) → k < n → get_or ps' k 0 < n
-  pos_in k h =
-      let o = p.position_within k h in
+  position_in' : (k : ℕ) → k < n → get_or ps' k 0 < n
+  position_in' k h =
+      let o = p.position_in k h in
       elim (cases_eq k (get_or cs i 0)) [
         | inl e ↦ let f : get_or ps' k 0 ≡ j = ap (λ m. get_or ps' m 0) e ∙ x.pos_i in omega arith
         | inr ni ↦ elim (cases_eq k (get_or cs j 0)) [
@@ -85,8 +85,8 @@ module _ (n : ℕ) (cs ps cs' ps' : List ℕ) (i j : ℕ) (p : IsPlacement n cs 
         ]
       ]
 
-  pub placed : length cs' ≡ n → length ps' ≡ n → IsPlacement n cs' ps'
-  placed lc lp = record { many_cells = lc; many_positions = lp; cell_within = cell_in; there = there'; position_within = pos_in; back = back' }
+  placement : length cs' ≡ n → length ps' ≡ n → IsPlacement n cs' ps'
+  placement lc lp = record { cell_count = lc; position_count = lp; cell_in = cell_in'; there = there'; position_in = position_in'; back = back' }
 
   both_below : (a b len : ℕ) → a < len → b < len → ltb a len ≡ ltb b len
   both_below a b len p q = grind arith
@@ -101,10 +101,10 @@ module _ (n : ℕ) (cs ps cs' ps' : List ℕ) (i j : ℕ) (p : IsPlacement n cs 
         ]
       ]
 
--- two columns written at two places each
-pub swapped : {n : ℕ} {cs ps cs' ps' : List ℕ} {i j : ℕ} → IsPlacement n cs ps → i < n → j < n
+-- two columns, each written at two places
+pub both_written : {n : ℕ} {cs ps cs' ps' : List ℕ} {i j : ℕ} → IsPlacement n cs ps → i < n → j < n
     → cs' ≡ set (set cs i (get_or cs j 0)) j (get_or cs i 0) → ps' ≡ set (set ps (get_or cs j 0) i) (get_or cs i 0) j
     → IsExchange cs ps cs' ps' i j × IsPlacement n cs' ps'
-swapped {n} {cs} {ps} {cs'} {ps'} {i} {j} p hi hj ec ep =
-    let x : IsExchange cs ps cs' ps' i j = rw (ec, ep) (exchanged n cs ps i j p hi hj) in
-    (x, placed n cs ps cs' ps' i j p hi hj x (ap length ec ∙ simp length-set p.many_cells) (ap length ep ∙ simp length-set p.many_positions))
+both_written {cs = cs} {ps = ps} {cs' = cs'} {ps' = ps'} {i = i} {j = j} p hi hj ec ep =
+    let x : IsExchange cs ps cs' ps' i j = rw (ec, ep) (exchange p hi hj) in
+    (x, placement p hi hj x (ap length ec ∙ simp length-set p.cell_count) (ap length ep ∙ simp length-set p.position_count))

@@ -1,6 +1,4 @@
+pub mod Trees
 pub mod Rows
 pub mod Order
-pub mod Waiting
 pub mod Queues
-pub mod Binary
-pub mod Chain

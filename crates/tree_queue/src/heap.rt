@@ -1,44 +1,46 @@
-// An indexed binary heap over rows that the caller lends: a priority queue for every charge kind. The lowest charge
-// stands at the top; a cell is found by its position, without looking for it.
 ghost use Rattle.std.specs.Prelude.{false};
-ghost use Rattle.tree_queue.specs.Binary.{above, first_below};
 ghost use Rattle.std.proofs.Common.{rules};
+ghost use Rattle.tree_queue.specs.Trees.{binary_parent, binary_child};
 
-use subject::charge::Charge;
-use crate::layout::{Layout, Leave};
+use crate::layout::Layout;
 use crate::queue::TreeQueue;
+use crate::take_lowest::TakeLowest;
+use subject::charge::Charge;
 
-// A heap over lent rows, of which the cells at the first `len` positions wait.
+/// An indexed binary heap over lent rows: a priority queue for every charge kind.
+///
+/// The lowest charge is on top. A cell is found by its position, without looking for it; to put or to take one
+/// costs steps along one path of the tree.
 pub type Heap<'a, C> = TreeQueue<'a, C, Binary>;
 
-// The binary tree: below the position i stand 2 i + 1 and 2 i + 2, and the lowest charge at the top.
+/// The binary tree: 2 i + 1 and 2 i + 2 are below the position i, and the lowest charge is on top.
 #[derive(Drop)]
 pub struct Binary;
 
 impl Layout for Binary {
-    ghost up = { above };
+    ghost parent = { binary_parent };
 
-    ghost down = { first_below };
+    ghost first_child = { binary_child };
 
-    ghost turned = { false };
+    ghost highest_on_top = { false };
 
-    ghost tree = { Prim.search rules };
+    ghost is_tree = { Prim.search rules };
 
     fn parent(i: usize) -> usize {
         i.saturating_sub(1) / 2
     }
 
-    fn child(i: usize, len: usize) -> Option<usize> {
+    fn first_child(i: usize, len: usize) -> Option<usize> {
         (i < len / 2).then(|| 2 * i + 1)
     }
 
-    fn may_top<C: Charge>(a: &C, b: &C) -> bool {
+    fn may_be_above<C: Charge>(a: &C, b: &C) -> bool {
         a.no_more(b)
     }
 }
 
-impl Leave for Binary {
-    fn take<C: Charge>(queue: &mut TreeQueue<'_, C, Binary>) -> Option<(usize, C)> {
+impl TakeLowest for Binary {
+    fn take_lowest<C: Charge>(queue: &mut TreeQueue<'_, C, Binary>) -> Option<(usize, C)> {
         queue.take_top()
     }
 }

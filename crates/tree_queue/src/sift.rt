@@ -1,18 +1,17 @@
-// A cell that stands too low or too high goes to its position, by exchanges along the tree. (The loops run over no range: the
-// next position is the layout's, and how far a cell goes is told by the charges.)
-ghost use Rattle.std.specs.Prelude.{◌≡◌, ◌<◌, length, slice_index, slice_index_or, slice_set};
+// A cell that is too low or too high goes to its position, by exchanges along the tree.
+ghost use Rattle.std.specs.Prelude.{◌≡◌, ◌<◌, length, slice_set};
 ghost use Rattle.tree_queue.specs.Rows.{charges, cells, positions};
-ghost use Rattle.tree_queue.specs.Queues.{row_count, SameCharges};
-ghost use Rattle.tree_queue.specs.Order.{IsAhead, SameWait, IsExchange, IsArranged, IsRising, IsSinking, IsForemost, ranked};
+ghost use Rattle.tree_queue.specs.Queues.{row_count, charge_at, rank, SameCharges, SameWaiting, IsExchanged};
+ghost use Rattle.tree_queue.specs.Queues.{IsInOrder, IsRisingAt, IsSinkingAt, IsForemostBelow};
 
 use crate::layout::Layout;
-use crate::lent::TreeQueue;
-use crate::slot::QueueRow;
+use crate::queue::TreeQueue;
+use crate::row::QueueRow;
 use subject::charge::Charge;
 
-// The cell `cell` stands at the position `at`.
+// The cell `cell` is at the position `at`.
 #[tactic(auto, using(crate::proofs::Columns::columns))]
-fn stand<C: Charge>(rows: &mut [QueueRow<C>], cell: usize, at: usize)
+fn place<C: Charge>(rows: &mut [QueueRow<C>], cell: usize, at: usize)
     requires cell { cell < length rows.old }
     requires at { at < length rows.old }
     ensures charges { charges rows.new ≡ charges rows.old }
@@ -24,46 +23,45 @@ fn stand<C: Charge>(rows: &mut [QueueRow<C>], cell: usize, at: usize)
 }
 
 impl<C: Charge, L: Layout> TreeQueue<'_, C, L> {
-    // Whether what stands at the position `i` may stand above what stands at `j`.
-    #[tactic(auto, using(crate::proofs::Columns::stands))]
-    fn ahead(&self, i: usize, j: usize) -> bool
-        requires i_within { i < row_count self.now }
-        requires j_within { j < row_count self.now }
-        ensures { (d : C) → result ≡ ranked L.Layout.turned C.Charge.within (slice_index_or (charges self.now.rows.now) (slice_index (cells self.now.rows.now) i) d) (slice_index_or (charges self.now.rows.now) (slice_index (cells self.now.rows.now) j) d) }
+    // Whether the cell at the position `i` may be above the cell at `j`.
+    #[tactic(auto, using(crate::proofs::Columns::on_rows))]
+    fn is_ahead(&self, i: usize, j: usize) -> bool
+        requires i { i < row_count self.now }
+        requires j { j < row_count self.now }
+        ensures { (d : C) → result ≡ rank L.Layout C.Charge (charge_at self.now i d) (charge_at self.now j d) }
     {
         let rows = &*self.rows;
         let a = rows[i].cell;
         let b = rows[j].cell;
-        L::may_top(&rows[a].charge, &rows[b].charge)
+        L::may_be_above(&rows[a].charge, &rows[b].charge)
     }
 
-    // What stands at the positions `i` and `j` is exchanged.
-    #[tactic(auto, using(crate::proofs::Columns::stands))]
+    // The cells at the positions `i` and `j` change positions.
+    #[tactic(auto, using(crate::proofs::Columns::on_rows))]
     pub(crate) fn exchange(&mut self, i: usize, j: usize)
-        requires i_within { i < row_count self.old }
-        requires j_within { j < row_count self.old }
-        ensures rearranged { SameCharges self.old self.new }
-        ensures exchanged { IsExchange (cells self.old.rows.now) (positions self.old.rows.now) (cells self.new.rows.now) (positions self.new.rows.now) i j }
+        requires i { i < row_count self.old }
+        requires j { j < row_count self.old }
+        ensures same { SameCharges self.old self.new }
+        ensures exchange { IsExchanged self.old self.new i j }
     {
         let rows = &mut *self.rows;
         let a = rows[i].cell;
         let b = rows[j].cell;
-        stand(rows, b, i);
-        stand(rows, a, j);
+        place(rows, b, i);
+        place(rows, a, j);
     }
 
     // The cell at the position `at` goes up as far as it belongs.
     pub(crate) fn sift_up(&mut self, at: usize)
-        requires below { at < self.old.len }
-        requires rising { IsRising L.Layout.up (IsAhead (ranked L.Layout.turned C.Charge.within) (charges self.old.rows.now)) (cells self.old.rows.now) self.old.len at }
-        ensures rearranged { SameCharges self.old self.new }
-        ensures arranged { IsArranged L.Layout.up (IsAhead (ranked L.Layout.turned C.Charge.within) (charges self.old.rows.now)) (cells self.new.rows.now) self.old.len }
-        ensures same { SameWait self.old.len (positions self.old.rows.now) (positions self.new.rows.now) }
+        requires waits { at < self.old.len }
+        requires rising { IsRisingAt L.Layout C.Charge self.old at }
+        ensures order { IsInOrder L.Layout C.Charge self.new }
+        ensures same { SameWaiting self.old self.new }
     {
         let mut i = at;
         while i > 0 {
             let up = L::parent(i);
-            if self.ahead(up, i) {
+            if self.is_ahead(up, i) {
                 return;
             }
             self.exchange(up, i);
@@ -71,11 +69,11 @@ impl<C: Charge, L: Layout> TreeQueue<'_, C, L> {
         }
     }
 
-    // Of the positions right below `i`, of which `first` is one, that whose cell may stand above the others.
+    // Of the positions right below `i`, which begin with `first`, that whose cell may be above the others.
     fn foremost(&self, i: usize, first: usize) -> usize
-        requires first { first ≡ L.Layout.down i }
-        requires below { first < self.now.len }
-        ensures { IsForemost L.Layout.up (IsAhead (ranked L.Layout.turned C.Charge.within) (charges self.now.rows.now)) (cells self.now.rows.now) self.now.len i result }
+        requires first { first ≡ L.Layout.first_child i }
+        requires waits { first < self.now.len }
+        ensures { IsForemostBelow L.Layout C.Charge self.now i result }
     {
         let len = self.len;
         let next = first + 1;
@@ -86,7 +84,7 @@ impl<C: Charge, L: Layout> TreeQueue<'_, C, L> {
         if above != i {
             return first;
         }
-        if self.ahead(first, next) {
+        if self.is_ahead(first, next) {
             return first;
         }
         next
@@ -94,15 +92,14 @@ impl<C: Charge, L: Layout> TreeQueue<'_, C, L> {
 
     // The cell at the position `at` goes down as far as it belongs.
     pub(crate) fn sift_down(&mut self, at: usize)
-        requires { IsSinking L.Layout.up (IsAhead (ranked L.Layout.turned C.Charge.within) (charges self.old.rows.now)) (cells self.old.rows.now) self.old.len at }
-        ensures rearranged { SameCharges self.old self.new }
-        ensures arranged { IsArranged L.Layout.up (IsAhead (ranked L.Layout.turned C.Charge.within) (charges self.old.rows.now)) (cells self.new.rows.now) self.old.len }
-        ensures same { SameWait self.old.len (positions self.old.rows.now) (positions self.new.rows.now) }
+        requires { IsSinkingAt L.Layout C.Charge self.old at }
+        ensures order { IsInOrder L.Layout C.Charge self.new }
+        ensures same { SameWaiting self.old self.new }
     {
         let mut i = at;
-        while let Some(first) = L::child(i, self.len) {
+        while let Some(first) = L::first_child(i, self.len) {
             let low = self.foremost(i, first);
-            if self.ahead(i, low) {
+            if self.is_ahead(i, low) {
                 return;
             }
             self.exchange(i, low);

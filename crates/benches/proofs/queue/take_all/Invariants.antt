@@ -1,5 +1,5 @@
 -- the queue stays in order
-use Rattle.benches.proofs.take_all.Given as goal
+use Rattle.benches.proofs.queue.take_all.Given as goal
 
 abbrev pub invariant-loop-place : goal.invariant-loop-place
-invariant-loop-place g l = g.Q.PriorityQueue.ordered l.queue
+invariant-loop-place g l = g.Q.PriorityQueue.is_ordered l.queue
