@@ -49,7 +49,7 @@ CallsOutcome {C} {Q} J q h h' (e ∷ es) =
 -- not pass, the first cause is told.
 pub record PlanLaw {C : Type 0} (P : Problem C) (counts : RowCounts) (run' : List Step) (r : Result (Planned C) Refusal) : Type 0 where
   pub passing : PlanPasses P counts
-    → MatchResult r (λ p. IsLeast P (take p.steps run') p.total) (λ e. (e ≡ NoRun) × NoLawfulRun P)
+      → MatchResult r (λ p. IsLeast P (take p.steps run') p.total) (λ e. (e ≡ NoRun) × NoLawfulRun P)
   pub stopped : (PlanPasses P counts → ⊥) → MatchResult r (λ p. ⊥) (λ e. PlanCause P counts e)
 
 -- a list of calls tried on a job, and then a plan for a request: the calls are as they were, each answer is right, the law holds of

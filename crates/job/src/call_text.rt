@@ -6,9 +6,9 @@ ghost use Rattle.job.specs.declared.list.Call.TheVariants.{Plan};
 ghost use Rattle.job.specs.Texts.{request_text, call_text, Counted, IsNoCall};
 
 use crate::list::Call;
-use subject::run::Request;
 use std::alloc::{AllocError, Global};
 use std::str::from_utf8;
+use subject::run::Request;
 
 /// The text of a call.
 pub fn text_of(alloc: Global, call: Call) -> Result<String, AllocError>
@@ -35,9 +35,7 @@ fn number(word: &str) -> Option<usize>
 
 // The plan with these numbers, if all are there.
 fn plan_with(start: Option<usize>, end: Option<usize>, bound: Option<usize>) -> Option<Call>
-    ensures {
-        (q : Asked) → start ≡ Some q.start → end ≡ Some q.end → bound ≡ Some q.bound → result ≡ Some (Plan q)
-    }
+    ensures { (q : Asked) → start ≡ Some q.start → end ≡ Some q.end → bound ≡ Some q.bound → result ≡ Some (Plan q) }
 {
     Some(Call::Plan(Request {
         start: start?,

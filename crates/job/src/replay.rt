@@ -21,13 +21,9 @@ fn attempt<S: Site, Q: PriorityQueue<Charge = S::Charge>>(
     memory: &mut Memory<'_, S::Charge, Q>,
 ) -> Answer<S::Charge>
     ensures below { site_below job.new ≡ site_below job.old }
-    ensures book {
-        (n : ℕ) → closed_by job.new n ≡ after_call (way_count S.Site job.old) (closed_by job.old) call n
-    }
-    ensures outcome {
-        CallOutcome (state_of S.Site S.Charge.Charge job.old) Q.PriorityQueue
-            (lent_memory memory.old) (lent_memory memory.new) call result
-    }
+    ensures book { (n : ℕ) → closed_by job.new n ≡ after_call (way_count S.Site job.old) (closed_by job.old) call n }
+    ensures outcome { CallOutcome (state_of S.Site S.Charge.Charge job.old) Q.PriorityQueue
+        (lent_memory memory.old) (lent_memory memory.new) call result }
     ensures same { SameLenders Q.PriorityQueue memory.old memory.new }
 {
     match call {
@@ -45,13 +41,9 @@ fn try_all<S: Site, Q: PriorityQueue<Charge = S::Charge>>(
 )
     ensures below { site_below job.new ≡ site_below job.old }
     ensures calls { calls_of entries.new ≡ calls_of entries.old }
-    ensures book {
-        (n : ℕ) → closed_by job.new n ≡ after_calls (way_count S.Site job.old) (closed_by job.old) (calls_of entries.old) n
-    }
-    ensures listed {
-        CallsOutcome (state_of S.Site S.Charge.Charge job.old) Q.PriorityQueue
-            (lent_memory memory.old) (lent_memory memory.new) entries.new
-    }
+    ensures book { (n : ℕ) → closed_by job.new n ≡ after_calls (way_count S.Site job.old) (closed_by job.old) (calls_of entries.old) n }
+    ensures listed { CallsOutcome (state_of S.Site S.Charge.Charge job.old) Q.PriorityQueue
+        (lent_memory memory.old) (lent_memory memory.new) entries.new }
     ensures same { SameLenders Q.PriorityQueue memory.old memory.new }
 {
     for entry in entries.iter_mut() {
@@ -70,13 +62,9 @@ pub fn replay_on<S: Site, Q: PriorityQueue<Charge = S::Charge>>(
     memory: &mut Memory<'_, S::Charge, Q>,
 ) -> Result<Planned<S::Charge>, Refusal>
     ensures below { site_below job.new ≡ site_below job.old }
-    ensures book {
-        (n : ℕ) → closed_by job.new n ≡ after_calls (way_count S.Site job.old) (closed_by job.old) (calls_of entries.old) n
-    }
-    ensures replayed {
-        ReplayOutcome (state_of S.Site S.Charge.Charge job.old) Q.PriorityQueue request entries.old entries.new
-            (lent_memory memory.old) (lent_memory memory.new) result
-    }
+    ensures book { (n : ℕ) → closed_by job.new n ≡ after_calls (way_count S.Site job.old) (closed_by job.old) (calls_of entries.old) n }
+    ensures replayed { ReplayOutcome (state_of S.Site S.Charge.Charge job.old) Q.PriorityQueue request entries.old entries.new
+        (lent_memory memory.old) (lent_memory memory.new) result }
     ensures same { SameLenders Q.PriorityQueue memory.old memory.new }
 {
     try_all(job, entries, memory);
@@ -92,14 +80,10 @@ pub fn replay<S: Site + Drop, Q: PriorityQueue<Charge = S::Charge>>(
     request: Request,
     memory: &mut Memory<'_, S::Charge, Q>,
 ) -> Result<Result<Planned<S::Charge>, Refusal>, AllocError>
-    ensures ok {
-        IfOk result (λ planned.
-            ReplayOutcome (state_over S.Site S.Charge.Charge site empty_book) Q.PriorityQueue request entries.old entries.new
-                (lent_memory memory.old) (lent_memory memory.new) planned)
-    }
-    ensures err {
-        OnErr result (IsUntouched entries.old entries.new (lent_memory memory.old) (lent_memory memory.new))
-    }
+    ensures ok { IfOk result (λ planned.
+        ReplayOutcome (state_over S.Site S.Charge.Charge site empty_book) Q.PriorityQueue request entries.old entries.new
+        (lent_memory memory.old) (lent_memory memory.new) planned) }
+    ensures err { OnErr result (IsUntouched entries.old entries.new (lent_memory memory.old) (lent_memory memory.new)) }
     ensures same { SameLenders Q.PriorityQueue memory.old memory.new }
 {
     let mut job = Job::new(alloc, site)?;

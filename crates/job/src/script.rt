@@ -8,11 +8,11 @@ ghost use Rattle.job.specs.Texts.{TextOf, FirstLine};
 ghost use Rattle.job.specs.Scripts.{AllUntried, IsNotPlan, EndTrouble, TroubleOf, ScriptOf, trouble_text};
 
 use crate::call_text::read_line;
-use subject::money::Money;
 use crate::list::{Answer, Call, Entry};
-use subject::run::{MOST_BOUND, Request};
 use std::alloc::{AllocError, Global};
 use std::fmt;
+use subject::money::Money;
+use subject::run::{MOST_BOUND, Request};
 
 /// The calls before the last, none of them tried yet, and the request of the last
 #[derive(Drop)]

@@ -13,6 +13,6 @@ invariant-loop-entry g l = record {
   below : site_below l.job ≡ site_below l.initial.job;
   book : closed_by l.job ≡ after_calls (way_count g.S.Site l.initial.job) (closed_by l.initial.job) (calls_of (take l.entry-index l.entries));
   listed : CallsOutcome (state_of g.S.Site g.S.Charge.Charge l.initial.job) g.Q.PriorityQueue
-    (lent_memory l.initial.memory) (lent_memory l.memory) (take l.entry-index l.entries);
+      (lent_memory l.initial.memory) (lent_memory l.memory) (take l.entry-index l.entries);
   same : SameLenders g.Q.PriorityQueue l.initial.memory l.memory;
 }

@@ -7,7 +7,7 @@ use Rattle.job.specs.declared.list.Call.{Call}
 use Rattle.job.specs.declared.list.Entry.{Entry}
 use Rattle.job.specs.declared.list.Answer.TheVariants.{Untried}
 use Rattle.job.specs.Replay.{calls_of}
-use Rattle.job.specs.Texts.{call_text, IsNoCall}
+use Rattle.job.specs.Texts.{call_text}
 use Rattle.job.specs.Scripts.{AllUntried}
 use Rattle.job.proofs.Listing.{Reading, reading_more, cut_shorter, calls_push, not_empty}
 use Rattle.job.proofs.script.read_lines.Goals as goal
