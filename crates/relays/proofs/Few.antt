@@ -6,75 +6,75 @@ use Rattle.std.specs.List.{AllByRecursion, IsDistinct, list_any}
 use Rattle.std.proofs.lemmas.Bool.{eqb-true, ne_eqb, or_cases}
 use Rattle.std.proofs.lemmas.Map.Steps.{length-le_from_distinct_below}
 use Rattle.subject.specs.declared.run.Step.{Step}
-use Rattle.subject.specs.declared.run.Request.{Request}
-use Rattle.subject.specs.Sites.{SiteMeaning, IsBounded}
+use Rattle.subject.specs.Problems.{Problem}
+use Rattle.subject.specs.Sites.{IsBounded}
 use Rattle.subject.specs.Runs.{loss_after, IsLawful, IsRun, place_behind, loss_behind, IsAvoided, NoneTwice}
 use Rattle.search.proofs.Trails.{after_low}
 
-module _ {C : Type 0} (m : SiteMeaning C) (bounded : IsBounded m) (q : Request) where
+module _ {C : Type 0} (P : Problem C) (bounded : IsBounded P.site) where
   -- the number of a place with a loss, and the numbers that a run leaves
   abbrev cell : ℕ → ℕ → ℕ
-  cell p l = p * (q.bound + 1) + l
+  cell p l = p * (P.request.bound + 1) + l
 
   abbrev left : ℕ → ℕ → List Step → List ℕ
   left p l [] = []
-  left p l (s ∷ rest) = cell p l ∷ left (place_behind (m.way s.way)) (loss_behind (m.way s.way) s.mark l) rest
+  left p l (s ∷ rest) = cell p l ∷ left (place_behind (P.site.way s.way)) (loss_behind (P.site.way s.way) s.mark l) rest
 
   -- a lawful step leaves a place of the site, and arrives with a loss within the bound, and lawfully goes on
   record Leads (p l : ℕ) (s : Step) (rest : List Step) : Type 0 where
-    place : p < m.places
-    low : loss_behind (m.way s.way) s.mark l ≤ q.bound
-    lawful : IsLawful m q (place_behind (m.way s.way)) (loss_behind (m.way s.way) s.mark l) rest
+    place : p < P.site.places
+    low : loss_behind (P.site.way s.way) s.mark l ≤ P.request.bound
+    lawful : IsLawful P (place_behind (P.site.way s.way)) (loss_behind (P.site.way s.way) s.mark l) rest
 
-  leads : (p l : ℕ) (s : Step) (rest : List Step) → IsLawful m q p l (s ∷ rest) → Leads p l s rest
+  leads : (p l : ℕ) (s : Step) (rest : List Step) → IsLawful P p l (s ∷ rest) → Leads p l s rest
   leads p l s rest (w, goes, on) =
-      let there : w.to ≡ place_behind (m.way s.way) = sym (ap place_behind goes.opens) in
-      let lost : loss_after s.mark (l + w.loss) ≡ loss_behind (m.way s.way) s.mark l = sym (ap (λ o. loss_behind o s.mark l) goes.opens) in
+      let there : w.to ≡ place_behind (P.site.way s.way) = sym (ap place_behind goes.opens) in
+      let lost : loss_after s.mark (l + w.loss) ≡ loss_behind (P.site.way s.way) s.mark l = sym (ap (λ o. loss_behind o s.mark l) goes.opens) in
       record {
-        place = subst (λ (x : ℕ). x < m.places) goes.leaves (bounded.from_in s.way w goes.opens);
-        low = subst (λ (x : ℕ). x ≤ q.bound) lost (after_low q s.mark _ _ goes.arrives refl);
-        lawful = subst (λ (x : ℕ). IsLawful m q (place_behind (m.way s.way)) x rest) lost (subst (λ (x : ℕ). IsLawful m q x (loss_after s.mark (l + w.loss)) rest) there on);
+        place = subst (λ (x : ℕ). x < P.site.places) goes.leaves (bounded.from_in s.way w goes.opens);
+        low = subst (λ (x : ℕ). x ≤ P.request.bound) lost (after_low P s.mark _ _ goes.arrives refl);
+        lawful = subst (λ (x : ℕ). IsLawful P (place_behind (P.site.way s.way)) x rest) lost (subst (λ (x : ℕ). IsLawful P x (loss_after s.mark (l + w.loss)) rest) there on);
       }
 
   left_length : (p l : ℕ) (run : List Step) → length (left p l run) ≡ length run
   left_length p l [] = refl
-  left_length p l (s ∷ rest) = ap suc (left_length (place_behind (m.way s.way)) (loss_behind (m.way s.way) s.mark l) rest)
+  left_length p l (s ∷ rest) = ap suc (left_length (place_behind (P.site.way s.way)) (loss_behind (P.site.way s.way) s.mark l) rest)
 
-  left_below : (p l : ℕ) (run : List Step) → l ≤ q.bound → IsLawful m q p l run → (y : ℕ) → list_any (eqb y) (left p l run) ≡ true → y < m.places * (q.bound + 1)
+  left_below : (p l : ℕ) (run : List Step) → l ≤ P.request.bound → IsLawful P p l run → (y : ℕ) → list_any (eqb y) (left p l run) ≡ true → y < P.site.places * (P.request.bound + 1)
   left_below p l [] low on y among = absurd (let z : ◌≡◌ {A = ℕ} 0 1 = cc in omega arith)
   left_below p l (s ∷ rest) low on y among =
       let next = leads p l s rest on in
-      let short : l < q.bound + 1 = omega arith in
+      let short : l < P.request.bound + 1 = omega arith in
       elim (or_cases _ _ among) [
-        | inl is ↦ subst (λ (x : ℕ). x < m.places * (q.bound + 1)) (sym (eqb-true y (cell p l) is)) (digits_lt next.place short)
-        | inr later ↦ left_below (place_behind (m.way s.way)) (loss_behind (m.way s.way) s.mark l) rest next.low next.lawful y later
+        | inl is ↦ subst (λ (x : ℕ). x < P.site.places * (P.request.bound + 1)) (sym (eqb-true y (cell p l) is)) (digits_lt next.place short)
+        | inr later ↦ left_below (place_behind (P.site.way s.way)) (loss_behind (P.site.way s.way) s.mark l) rest next.low next.lawful y later
       ]
 
-  one_cell : (p l a b : ℕ) → l ≤ q.bound → b ≤ q.bound → cell p l ≡ cell a b → (p ≡ a) × (l ≡ b)
+  one_cell : (p l a b : ℕ) → l ≤ P.request.bound → b ≤ P.request.bound → cell p l ≡ cell a b → (p ≡ a) × (l ≡ b)
   one_cell p l a b low low' e =
-      let short : l < q.bound + 1 = omega arith in
-      let short' : b < q.bound + 1 = omega arith in (
-        sym (digits_div p short) ∙ ap (λ (x : ℕ). x / (q.bound + 1)) e ∙ digits_div a short',
-        sym (digits_mod p short) ∙ ap (λ (x : ℕ). x % (q.bound + 1)) e ∙ digits_mod a short',
+      let short : l < P.request.bound + 1 = omega arith in
+      let short' : b < P.request.bound + 1 = omega arith in (
+        sym (digits_div p short) ∙ ap (λ (x : ℕ). x / (P.request.bound + 1)) e ∙ digits_div a short',
+        sym (digits_mod p short) ∙ ap (λ (x : ℕ). x % (P.request.bound + 1)) e ∙ digits_mod a short',
       )
 
-  left_avoids : (a b p l : ℕ) (run : List Step) → b ≤ q.bound → l ≤ q.bound → IsLawful m q p l run → IsAvoided m a b p l run → AllByRecursion (λ y. eqb (cell a b) y ≡ false) (left p l run)
+  left_avoids : (a b p l : ℕ) (run : List Step) → b ≤ P.request.bound → l ≤ P.request.bound → IsLawful P p l run → IsAvoided P a b p l run → AllByRecursion (λ y. eqb (cell a b) y ≡ false) (left p l run)
   left_avoids a b p l [] low' low on h = tt
   left_avoids a b p l (s ∷ rest) low' low on h =
       let next = leads p l s rest on in (
         ne_eqb (cell a b) (cell p l) (λ e. let same = one_cell p l a b low low' (sym e) in h.0 same.0 same.1),
-        left_avoids a b (place_behind (m.way s.way)) (loss_behind (m.way s.way) s.mark l) rest low' next.low next.lawful h.1,
+        left_avoids a b (place_behind (P.site.way s.way)) (loss_behind (P.site.way s.way) s.mark l) rest low' next.low next.lawful h.1,
       )
 
-  left_distinct : (p l : ℕ) (run : List Step) → l ≤ q.bound → IsLawful m q p l run → NoneTwice m p l run → IsDistinct eqb (left p l run)
+  left_distinct : (p l : ℕ) (run : List Step) → l ≤ P.request.bound → IsLawful P p l run → NoneTwice P p l run → IsDistinct eqb (left p l run)
   unfolding IsDistinct
   left_distinct p l [] low on h = tt
   left_distinct p l (s ∷ rest) low on h =
       let next = leads p l s rest on in
-      (left_avoids p l (place_behind (m.way s.way)) (loss_behind (m.way s.way) s.mark l) rest low next.low next.lawful h.0, left_distinct (place_behind (m.way s.way)) (loss_behind (m.way s.way) s.mark l) rest next.low next.lawful h.1)
+      (left_avoids p l (place_behind (P.site.way s.way)) (loss_behind (P.site.way s.way) s.mark l) rest low next.low next.lawful h.0, left_distinct (place_behind (P.site.way s.way)) (loss_behind (P.site.way s.way) s.mark l) rest next.low next.lawful h.1)
 
-  pub few_steps : (run : List Step) → IsRun m q run → NoneTwice m q.start 0 run → length run ≤ m.places * (q.bound + 1)
+  pub few_steps : (run : List Step) → IsRun P run → NoneTwice P P.request.start 0 run → length run ≤ P.site.places * (P.request.bound + 1)
   few_steps run on h =
-      let same = left_length q.start 0 run in
-      let few = length-le_from_distinct_below (left q.start 0 run) (m.places * (q.bound + 1)) (left_distinct q.start 0 run (omega arith) on h) (left_below q.start 0 run (omega arith) on) in
+      let same = left_length P.request.start 0 run in
+      let few = length-le_from_distinct_below (left P.request.start 0 run) (P.site.places * (P.request.bound + 1)) (left_distinct P.request.start 0 run (omega arith) on h) (left_below P.request.start 0 run (omega arith) on) in
       omega arith

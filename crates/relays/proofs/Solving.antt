@@ -1,60 +1,87 @@
 -- A least run is an optimal path. It is feasible since it is lawful; it is so short that its value stays below the ceiling, so
--- its total is its value; and each feasible path is a lawful run, whose total is at most its value.
-use Rattle.std.proofs.Common.{◌≡◌, ℕ, ◌+◌, ◌*◌, ◌<◌, ◌≤◌, min, true, List, length, take, Ok, Err, Result, sym, ap, ◌∙◌, subst, inl, inr, mul-le-mul, arith}
+-- its total is its value; and each feasible path is a lawful run, whose total is at most its value. Shown once, over any set of
+-- shut ways: a plan over the survey has none, a plan at the end of a list of calls those of the closing book.
+use Rattle.std.proofs.Common.{◌≡◌, ℕ, ◌+◌, ◌*◌, ◌<◌, ◌≤◌, min, Bool, true, List, length, take, Ok, Err, Result, IfOk, refl, sym, ap, ◌∙◌, subst, inl, inr, mul-le-mul, arith}
 use Rattle.std.proofs.lemmas.Bool.{leb-true}
-use Rattle.subject.specs.declared.refusal.Refusal.{Refusal}
+use Rattle.std.proofs.lemmas.Result.{IfOk-weaker}
+use Rattle.subject.specs.declared.money.TheConstants.{CEILING}
 use Rattle.subject.specs.declared.money.Money.{Money}
+use Rattle.subject.specs.declared.queue.PriorityQueue.{Ghosts as QueueGhosts}
+use Rattle.subject.specs.declared.refusal.Refusal.{Refusal}
+use Rattle.subject.specs.declared.run.TheConstants.{MOST_BOUND}
+use Rattle.subject.specs.declared.run.Step.{Step}
+use Rattle.subject.specs.declared.run.Request.{Request}
+use Rattle.subject.specs.declared.site.TheConstants.{MOST_PLACES}
 use Rattle.subject.specs.Moneys.{of_cents, amount, money, money_no_more}
+use Rattle.subject.specs.Problems.{Problem}
+use Rattle.subject.specs.Sites.{IsBounded}
+use Rattle.subject.specs.Runs.{IsLeast, NoneTwice}
 use Rattle.survey.specs.declared.sealed.Sealed.{Sealed}
 use Rattle.survey.specs.Contents.{Contents}
 use Rattle.survey.specs.Sealing.{sealed_contents}
-use Rattle.subject.specs.declared.run.Step.{Step}
-use Rattle.subject.specs.declared.run.Request.{Request}
-use Rattle.subject.specs.Sites.{IsBounded}
-use Rattle.subject.specs.Runs.{IsLeast, NoneTwice}
-use Rattle.search.specs.Checks.{BoundInRange}
-use Rattle.search.proofs.Stopping.{cause_fails, cause_other}
-use Rattle.search.specs.Lends.{LentMemory, lent_memory}
-use Rattle.search.specs.declared.memory.Memory.{Memory}
-use Rattle.survey.specs.SurveySite.{money_site}
+use Rattle.survey.specs.SurveySite.{money_problem}
 use Rattle.survey.specs.SiteBounds.{sealed_bounded}
+use Rattle.search.specs.declared.check.RowCounts.{RowCounts}
+use Rattle.search.specs.Checks.{BoundInRange, FirstCause}
+use Rattle.search.specs.Memories.{LentMemory, counts_of}
+use Rattle.search.proofs.Stopping.{cause_other}
 use Rattle.planner.specs.declared.plan.Planned.{Planned}
-use Rattle.planner.specs.Outcome.{PlanOutcome, PlanRefused}
-use Rattle.relays.specs.Problem.{value}
-use Rattle.relays.specs.Answers.{Solved, Unsolved, Answered}
-use Rattle.relays.proofs.Lawful.{lawful_feasible, feasible_lawful}
+use Rattle.planner.specs.Outcome.{PlanOutcome}
+use Rattle.job.specs.declared.list.Entry.{Entry}
+use Rattle.job.specs.Bounds.{shutting_bounded}
+use Rattle.job.specs.Replay.{PlanLaw, ReplayOutcome}
+use Rattle.job.proofs.Lists.{law_holds}
+use Rattle.relays.specs.Problem.{RelayProblem, all_open, value}
+use Rattle.relays.specs.Answers.{IsSolution, IsAnswer}
+use Rattle.relays.specs.MoneyJobs.{money_job, problem_after}
+use Rattle.relays.proofs.Lawful.{lawful_feasible, feasible_lawful, money_asked}
 use Rattle.relays.proofs.Totals.{capped, total_capped}
 use Rattle.relays.proofs.Few.{few_steps}
 use Rattle.relays.proofs.Prices.{value_low}
 
 -- of two sums below or at the ceiling the order is that of what they came from, where the first did not reach it
-order_below : (a b : ℕ) → a < 4000000000000000000 → money_no_more (of_cents a) (capped (0 + b)) ≡ true → a ≤ b
+order_below : (a b : ℕ) → a < CEILING → money_no_more (of_cents a) (capped (0 + b)) ≡ true → a ≤ b
 order_below a b low h = let order = leb-true (amount (of_cents a)) (amount (capped (0 + b))) h in omega arith
 
-module _ (s : Sealed) (q : Request) where
-  bounded : IsBounded (money_site (sealed_contents s))
-  bounded = sealed_bounded (λ w. of_cents w.price) of_cents s
+module _ (s : Sealed) (shut : ℕ → Bool) (q : Request) where
+  abbrev R : RelayProblem
+  R = record { contents = sealed_contents s; shut = shut; request = q }
 
-  value_countable : (run : List Step) → BoundInRange q → length run ≤ length (sealed_contents s).places * (q.bound + 1) → value (sealed_contents s) run < 4000000000000000000
-  value_countable run stands short =
+  abbrev P : Problem Money
+  P = money_asked R
+
+  abbrev c : Contents
+  c = sealed_contents s
+
+  bounded : IsBounded P.site
+  bounded = shutting_bounded _ shut (sealed_bounded (λ w. of_cents w.price) of_cents s)
+
+  value_countable : (run : List Step) → BoundInRange q → length run ≤ length c.places * (q.bound + 1) → value c run < CEILING
+  value_countable run range short =
       let low = value_low s run in
       let few = bounded.few_places in
-      let most = stands.most in
-      let rows : length (sealed_contents s).places * (q.bound + 1) ≤ 4096 * 1001 = mul-le-mul few (let up : q.bound + 1 ≤ 1001 = omega arith in up) in
+      let most = range.most in
+      let bound : q.bound + 1 ≤ MOST_BOUND + 1 = omega arith in
+      let rows : length c.places * (q.bound + 1) ≤ MOST_PLACES * (MOST_BOUND + 1) = mul-le-mul few bound in
       omega arith
 
-  pub least_solved : (run : List Step) (sum : Money) → BoundInRange q → IsLeast money (money_site (sealed_contents s)) q run sum → NoneTwice (money_site (sealed_contents s)) q.start 0 run → Solved (sealed_contents s) q run sum
-  least_solved run sum stands least once =
-      let c = sealed_contents s in
-      let short = few_steps (money_site c) bounded q run least.lawful once in
-      let countable = value_countable run stands short in
-      let exact : sum ≡ of_cents (value c run) = least.comes_to ∙ total_capped c q q.start 0 0 run (omega arith) least.lawful ∙ ap of_cents (let v : min (0 + value c run) 4000000000000000000 ≡ value c run = omega arith in v) in
+  least_solves : (run : List Step) (sum : Money) → BoundInRange q → IsLeast P run sum → NoneTwice P q.start 0 run
+      → IsSolution R run sum
+  least_solves run sum range least once =
+      let short = few_steps P bounded run least.lawful once in
+      let countable = value_countable run range short in
+      let capped_total = total_capped R q.start 0 0 run (omega arith) least.lawful in
+      let uncapped : min (0 + value c run) CEILING ≡ value c run = omega arith in
+      let exact : sum ≡ of_cents (value c run) = least.comes_to ∙ capped_total ∙ ap of_cents uncapped in
       record {
         optimal = record {
-          feasible = lawful_feasible c q run least.lawful;
+          feasible = lawful_feasible R run least.lawful;
           cheapest = λ other f.
-              let lawful = feasible_lawful c q other f in
-              let order = ap (λ a. money_no_more a (capped (0 + value c other))) (sym exact) ∙ ap (money_no_more sum) (sym (total_capped c q q.start 0 0 other (omega arith) lawful)) ∙ least.lowest other lawful in
+              let lawful = feasible_lawful R other f in
+              let total = total_capped R q.start 0 0 other (omega arith) lawful in
+              let order = ap (λ a. money_no_more a (capped (0 + value c other))) (sym exact)
+              ∙ ap (money_no_more sum) (sym total)
+              ∙ least.lowest other lawful in
               order_below (value c run) (value c other) countable order;
         };
         short = short;
@@ -62,27 +89,44 @@ module _ (s : Sealed) (q : Request) where
         exact = exact;
       }
 
-  pub refused_unsolved : {Q : Type 0} (many : ℕ) (h h' : LentMemory Money Q) (e : Refusal)
-      → PlanRefused (money_site (sealed_contents s)) q many h h' e → Unsolved (sealed_contents s) q (length h.cells) many (length h.run) e
-  refused_unsolved many h h' e refused = elim refused [
-    | inl a ↦ record {
-      none = λ is. absurd (cause_other _ q (length h.cells) many (length h.run) e a.0 is);
-      only = λ p. absurd (cause_fails _ q (length h.cells) many (length h.run) e a.0 p);
-    }
-    | inr b ↦ record { none = λ is other f. b.2 other (feasible_lawful (sealed_contents s) q other f); only = λ p. b.0 }
-  ]
-
-  -- the outcome of a plan answers the problem
-  pub outcome_answers : {Q : Type 0} (many : Q → ℕ) (h h' : LentMemory Money Q) (r : Result (Planned Money) Refusal)
-      → PlanOutcome money many (money_site (sealed_contents s)) q h h' r → Answered (sealed_contents s) q (length h.cells) (many h.queue) (length h.run) h'.run r
-  outcome_answers many h h' (Ok p) o =
+  -- a plan and its law are an answer to the problem
+  pub law_answers : {Q : Type 0} (queue : QueueGhosts Q Money) (counts : RowCounts) (h h' : LentMemory Money Q)
+      (r : Result (Planned Money) Refusal) → PlanLaw P counts h'.run r → PlanOutcome P queue h h' r → IsAnswer R counts h'.run r
+  law_answers queue counts h h' (Ok p) law o =
       let answer = o.answer in
-      least_solved (take p.steps h'.run) p.total answer.0.bound_stands answer.1.least answer.1.once
-  outcome_answers many h h' (Err e) o = refused_unsolved (many h.queue) h h' e o.answer
+      least_solves (take p.steps h'.run) p.total answer.0.bound_in_range answer.1.least answer.1.once
+  law_answers queue counts h h' (Err e) law o = record {
+    none = λ is. elim o.answer [
+      | inl a ↦ absurd (cause_other P.site.places q (counts_of queue h) e a.0 is)
+      | inr a ↦ λ other f. a.2 other (feasible_lawful R other f)
+    ];
+    only = λ passes. (law.passing passes).0;
+  }
 
--- the same of what a view shows, with the memory that is lent to the plan
-pub view_answers : {Q : Type 0} (s : Sealed) (q : Request) (many : Q → ℕ) (memory memory' : Memory Money Q) (r : Result (Planned Money) Refusal) (shown : Contents)
-    → shown ≡ sealed_contents s → PlanOutcome money many (money_site shown) q (lent_memory memory) (lent_memory memory') r
-    → Answered (sealed_contents s) q (length memory.cells.now) (many memory.queue) (length memory.run.now) memory'.run.now r
-view_answers s q many memory memory' r shown same o =
-    outcome_answers s q many (lent_memory memory) (lent_memory memory') r (subst (λ (c : Contents). PlanOutcome money many (money_site c) q (lent_memory memory) (lent_memory memory') r) same o)
+-- a plan over a view that shows a sealed survey answers the problem with no way shut
+pub plan_answers : {Q : Type 0} (s : Sealed) (q : Request) (queue : QueueGhosts Q Money) (h h' : LentMemory Money Q)
+    (r : Result (Planned Money) Refusal) (shown : Contents) → shown ≡ sealed_contents s
+    → PlanOutcome (money_problem shown q) queue h h' r
+    → IsAnswer (all_open (sealed_contents s) q) (counts_of queue h) h'.run r
+plan_answers s q queue h h' r shown same o =
+    let P = money_problem (sealed_contents s) q in
+    let here = subst (λ c. PlanOutcome (money_problem c q) queue h h' r) same o in
+    law_answers s _ q queue (counts_of queue h) h h' r (law_holds P queue h h' (counts_of queue h) r refl here) here
+
+-- the plan at the end of a list of calls answers the problem with the ways of the closing book shut
+pub replay_answers : {Q : Type 0} (s : Sealed) (book : ℕ → Bool) (q : Request) (queue : QueueGhosts Q Money)
+    (es es' : List (Entry Money)) (h h' : LentMemory Money Q) (r : Result (Planned Money) Refusal) (shown : Contents)
+    → shown ≡ sealed_contents s → ReplayOutcome (money_job shown book) queue q es es' h h' r
+    → IsAnswer (problem_after (sealed_contents s) book es q) (counts_of queue h) h'.run r
+replay_answers s book q queue es es' h h' r shown same o =
+    let here = subst (λ c. ReplayOutcome (money_job c book) queue q es es' h h' r) same o in
+    law_answers s _ q queue (counts_of queue h) here.before h' r here.law here.next
+
+-- the same where a job could be set up
+pub replay_answers_ok : {Q E : Type 0} (s : Sealed) (book : ℕ → Bool) (q : Request) (queue : QueueGhosts Q Money)
+    (es es' : List (Entry Money)) (h h' : LentMemory Money Q) (r : Result (Result (Planned Money) Refusal) E) (shown : Contents)
+    → shown ≡ sealed_contents s → IfOk r (λ planned. ReplayOutcome (money_job shown book) queue q es es' h h' planned)
+    → IfOk r (λ planned. IsAnswer (problem_after (sealed_contents s) book es q) (counts_of queue h) h'.run planned)
+replay_answers_ok s book q queue es es' h h' r shown same o =
+    IfOk-weaker r (λ planned. ReplayOutcome (money_job shown book) queue q es es' h h' planned) _
+    (λ planned p. replay_answers s book q queue es es' h h' planned shown same p) o

@@ -1,2 +1,3 @@
 pub mod Problem
 pub mod Answers
+pub mod MoneyJobs

@@ -1,8 +1,8 @@
--- The minimum cost path problem with relays, over the contents of a survey: which paths are feasible, what one costs, and when
--- one is optimal. Stands on the contents of a survey, the loss card and the request; it knows nothing of charges and their
--- ceiling, nor of how a plan is made. A path is told by its steps: each has the number of a way, and says whether a repeater
--- is set where the way arrives.
-use Rattle.std.specs.Prelude.{◌≡◌, ℕ, ◌+◌, ◌≤◌, cond, ◌≢◌, List, [], ◌∷◌, map, Some, None, sum, Option}
+-- The minimum cost path problem with relays, over the contents of a survey with some of its ways shut: which paths are feasible,
+-- what one costs, and when one is optimal. A path is told by its steps: each has the number of a way, and says whether a repeater
+-- is set where the way arrives. Stands on the contents of a survey, the loss card and the request; it knows nothing of charges
+-- and their ceiling, nor of how a plan is made.
+use Rattle.std.specs.Prelude.{◌≡◌, ℕ, ◌+◌, ◌≤◌, Bool, false, cond, ◌≢◌, List, [], ◌∷◌, map, Some, None, sum, Option}
 use Rattle.std.specs.List.{slice_get, AllByRecursion}
 use Rattle.survey.specs.declared.entry.Place.{Place}
 use Rattle.survey.specs.declared.entry.WayEntry.{WayEntry}
@@ -11,10 +11,26 @@ use Rattle.subject.specs.declared.run.Step.{Step}
 use Rattle.subject.specs.declared.run.Request.{Request}
 use Rattle.survey.specs.SurveySite.{entry_loss}
 
--- the steps are a path from the place p to the place e: each goes over a way of the survey that leaves where the last arrived
-abbrev pub Path : Contents → ℕ → ℕ → List Step → Type 0
-Path c p e [] = p ≡ e
-Path c p e (s ∷ rest) = (w : WayEntry) × (slice_get c.ways s.way ≡ Some w) × (w.from ≡ p) × Path c w.to e rest
+-- what is given: a survey, the set of the ways that are shut, by their numbers, and the start, the end and the bound
+pub record RelayProblem : Type 0 where
+  pub contents : Contents
+  pub shut : ℕ → Bool
+  pub request : Request
+
+-- with no way shut
+abbrev pub all_open : Contents → Request → RelayProblem
+all_open c q = record { contents = c; shut = λ _. false; request = q }
+
+-- the step s goes over the way w, which was entered, is not shut, and leaves the place p
+pub record IsStepFrom (R : RelayProblem) (p : ℕ) (s : Step) (w : WayEntry) : Type 0 where
+  pub entered : slice_get R.contents.ways s.way ≡ Some w
+  pub not_shut : R.shut s.way ≡ false
+  pub leaves : w.from ≡ p
+
+-- the steps are a path from the place p to the end: each leaves where the one before it arrived
+abbrev pub IsPath : RelayProblem → ℕ → List Step → Type 0
+IsPath R p [] = p ≡ R.request.end
+IsPath R p (s ∷ rest) = (w : WayEntry) × IsStepFrom R p s w × IsPath R w.to rest
 
 -- what was entered for a way, if there is one (on a path there is)
 abbrev pub loss_at : Option WayEntry → ℕ
@@ -61,20 +77,25 @@ entered_at None = None
 entered_at (Some p) = p.repeater
 
 -- a repeater can be set at the place p: its price was entered, and p is neither the start nor the end
-pub record RelayStands (c : Contents) (q : Request) (p : ℕ) : Type 0 where
+pub record IsRelayAllowed (R : RelayProblem) (p : ℕ) : Type 0 where
   pub cents : ℕ
-  pub entered : entered_at (slice_get c.places p) ≡ Some cents
-  pub not_start : p ≢ q.start
-  pub not_end : p ≢ q.end
+  pub entered : entered_at (slice_get R.contents.places p) ≡ Some cents
+  pub not_start : p ≢ R.request.start
+  pub not_end : p ≢ R.request.end
 
-pub record Feasible (c : Contents) (q : Request) (run : List Step) : Type 0 where
-  pub path : Path c q.start q.end run
-  pub relays_stand : AllByRecursion (RelayStands c q) (relays c run)
-  pub within_bound : AllByRecursion (λ losses. sum losses ≤ q.bound) (stretches c run)
+-- the losses of a stretch sum to at most the bound
+abbrev pub IsWithinBound : RelayProblem → List ℕ → Type 0
+IsWithinBound R losses = sum losses ≤ R.request.bound
+
+-- a path from the start to the end, with repeaters only where they can be set, and each stretch within the bound
+pub record IsFeasible (R : RelayProblem) (run : List Step) : Type 0 where
+  pub path : IsPath R R.request.start run
+  pub relays_allowed : AllByRecursion (IsRelayAllowed R) (relays R.contents run)
+  pub within_bound : AllByRecursion (IsWithinBound R) (stretches R.contents run)
 
 -- no path is feasible
-abbrev pub Infeasible : Contents → Request → Type 0
-Infeasible c q = (run : List Step) → Feasible c q run → ⊥
+abbrev pub NoneFeasible : RelayProblem → Type 0
+NoneFeasible R = (run : List Step) → IsFeasible R run → ⊥
 
 -- the price of a repeater (at a repeater of a feasible path one was entered)
 abbrev pub relay_cents : Option ℕ → ℕ
@@ -89,6 +110,6 @@ abbrev pub value : Contents → List Step → ℕ
 value c run = sum (map (price c) run) + sum (map (relay_price c) (relays c run))
 
 -- the path is feasible, and no feasible path costs less
-pub record Optimal (c : Contents) (q : Request) (run : List Step) : Type 0 where
-  pub feasible : Feasible c q run
-  pub cheapest : (other : List Step) → Feasible c q other → value c run ≤ value c other
+pub record IsOptimal (R : RelayProblem) (run : List Step) : Type 0 where
+  pub feasible : IsFeasible R run
+  pub cheapest : (other : List Step) → IsFeasible R other → value R.contents run ≤ value R.contents other
