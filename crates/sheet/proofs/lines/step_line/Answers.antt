@@ -1,7 +1,7 @@
 -- The line says the four numbers, and then the mark.
 use Rattle.std.proofs.Common.{◌^◌, ◌<◌, ◌≤◌, Bool, true, false, [], ◌++◌, length, ap, ◌∙◌, arith, rules}
 use Rattle.std.proofs.lemmas.List.{append_assoc, length-append}
-use Rattle.sheet.specs.Lines.{text_of, pushed}
+use Rattle.sheet.specs.Lines.{text_of, text_and}
 use Rattle.sheet.specs.Refused.{number_then}
 use Rattle.sheet.specs.Sheet.{mark_end}
 use Rattle.sheet.proofs.Growing.{says_more, says_number_then, number_then_long}
@@ -35,5 +35,5 @@ returns c =
     let long-e = number_then_long x.loss 32 loss_small in
     let long-abde = length-append ((a ++ b) ++ d) e in
     let long-f = mark_long x.mark in
-    let all = says_more _ (text_of c.push.new.self) (((a ++ b) ++ d) ++ e) f four (c.push.ensures ∙ ap (pushed (text_of c.push_number_then-4.new.self)) c.mark_end.ensures) (omega arith) in
+    let all = says_more _ (text_of c.push.new.self) (((a ++ b) ++ d) ++ e) f four (c.push.ensures ∙ ap (text_and (text_of c.push_number_then-4.new.self)) c.mark_end.ensures) (omega arith) in
     all ∙ append_assoc ((a ++ b) ++ d) e f ∙ append_assoc (a ++ b) d (e ++ f) ∙ append_assoc a b (d ++ (e ++ f))
