@@ -1,5 +1,5 @@
--- What is printed to a writer: of a file that is read nothing, or the line of its fault; of steps their sheet, or the line of
--- a refusal. Stands on sheets, on refusal lines, and on the bytes that a writer holds, where they are known.
+-- What is printed to a writer: of a file that is read nothing, or the line of its fault; of steps their sheet, or the line
+-- of a refusal. Stands on sheets, on refusal lines, and on the bytes that a writer holds, where they are known.
 use Rattle.std.specs.Prelude.{◌≡◌, ℕ, ◌≤◌, ◌⊎◌, List, [], length, Ok, Err, Result}
 use Rattle.std.specs.Io.KnownBytes.{Appends}
 use Rattle.std.specs.declared.io.Write.{Ghosts as WriteGhosts}
@@ -7,11 +7,13 @@ use Rattle.subject.specs.declared.money.Money.{Money}
 use Rattle.subject.specs.declared.refusal.Refusal.{Refusal}
 use Rattle.subject.specs.declared.refusal.Fault.{Fault}
 use Rattle.subject.specs.declared.run.Step.{Step}
+use Rattle.subject.specs.declared.run.Request.{Request}
 use Rattle.subject.specs.Problems.{Problem}
+use Rattle.survey.specs.declared.sealed.Sealed.{Sealed}
 use Rattle.sheet.specs.declared.refused.Refused.TheVariants.{Call, File}
 use Rattle.sheet.specs.Refused.{refusal_text}
 use Rattle.sheet.specs.Sheet.{sheet_text}
-use Rattle.sheet.specs.Page.{SheetExists, PageRefused}
+use Rattle.sheet.specs.Page.{sealed_problem, SheetExists, PageRefused}
 
 module _ {W : Type 0} (w : WriteGhosts W) where
   -- the writer holds the text, behind what it held
@@ -36,6 +38,8 @@ module _ (P : Problem Money) (steps : List Step) (page : ℕ) where
   abbrev pub RefusalShown : List ℕ → Type 0
   RefusalShown text = (e : Refusal) × (text ≡ refusal_text (Call e)) × PageRefused P steps page e
 
-  -- the text is what is printed for the steps
-  abbrev pub Shown : List ℕ → Type 0
-  Shown text = SheetShown text ⊎ RefusalShown text
+-- the text is what is printed for the steps over a sealed survey
+abbrev pub Shown : Sealed → Request → List Step → ℕ → List ℕ → Type 0
+Shown survey request steps page text =
+    SheetShown (sealed_problem survey request) steps page text
+    ⊎ RefusalShown (sealed_problem survey request) steps page text

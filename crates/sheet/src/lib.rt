@@ -2,10 +2,10 @@
 #![tactic(auto)]
 
 pub mod digits;
-pub mod lines;
+mod lines;
 pub mod page;
 pub mod pricing;
 pub mod print;
 pub mod refused;
-pub mod steps;
-pub mod text;
+mod steps;
+mod text;

@@ -2,10 +2,9 @@
 ghost use Rattle.std.specs.Prelude.{◌≡◌, ◌<◌, ◌≤◌, length, IfOk, IfErr, OnErr};
 ghost use Rattle.survey_file.specs.Pieces.{put_answer, put_bytes};
 ghost use Rattle.subject.specs.declared.refusal.Refusal.TheVariants.{NotLawful};
-ghost use Rattle.subject.specs.Runs.{IsRun, total};
+ghost use Rattle.subject.specs.Runs.{IsRun};
 ghost use Rattle.survey.specs.SurveySite.{money_problem, view_contents};
-ghost use Rattle.sheet.specs.Sheet.{sheet_text};
-ghost use Rattle.sheet.specs.Drawings.{drawing_problem};
+ghost use Rattle.sheet.specs.Drawings.{drawing_problem, drawing_text};
 ghost use Rattle.sheet.specs.Positions.{IsPriced};
 ghost use Rattle.sheet.specs.Page.{sealed_problem, PageDrawn, PageRefused};
 
@@ -25,10 +24,9 @@ fn put_sheet(
     sum: Money,
     out: &mut [u8],
 ) -> Result<usize, Refusal>
-    requires lawful { IsRun (drawing_problem drawing.now) drawing.now.steps.now }
-    requires sum { sum ≡ total (drawing_problem drawing.now) drawing.now.steps.now }
-    ensures answer { result ≡ put_answer out.old 0 (sheet_text (drawing_problem drawing.now) drawing.now.steps.now) }
-    ensures after { out.new ≡ put_bytes out.old 0 (sheet_text (drawing_problem drawing.now) drawing.now.steps.now) }
+    requires { IsPriced (drawing_problem drawing.now) drawing.now.steps.now sum }
+    ensures answer { result ≡ put_answer out.old 0 (drawing_text drawing.now) }
+    ensures after { out.new ≡ put_bytes out.old 0 (drawing_text drawing.now) }
 {
     let first = run_line(drawing.request);
     let last = total_line(sum);
@@ -49,7 +47,7 @@ fn lawful_total(view: &MoneyView<'_>, request: Request, steps: &[Step]) -> Resul
     total_of(view, request, steps).ok_or(Refusal::NotLawful)
 }
 
-/// The sheet of a run that was drawn by hand or planned, into the front of the bytes, and how long it is.
+/// The sheet of a run over a survey, into the front of the bytes, and how long it is.
 ///
 /// Refused are, in this order, a missing start or end with 14, a wrong bound with 15, steps that are no lawful run for
 /// money with 19, and a sheet that does not fit with 18; then all bytes stay.

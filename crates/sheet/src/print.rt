@@ -1,5 +1,5 @@
-// What programs read and print: a request in six bytes, standard input up to a number of bytes, survey files, sheets and
-// refusals.
+// What programs read and print: a request in six bytes, standard input up to a number of bytes, survey files, sheets
+// and refusals.
 ghost use Rattle.std.specs.Prelude.{◌≡◌, ℕ, ◌<◌, ◌≤◌, length, drop, IfOk, IfErr, OnOk, OnErr};
 ghost use Rattle.std.specs.Io.KnownBytes.{IsAtEnd, Keeps};
 ghost use Rattle.std.specs.Option.{option_map};
@@ -9,7 +9,6 @@ ghost use Rattle.survey_file.specs.Decode.{decode};
 ghost use Rattle.survey_file.specs.Fields.{IsFileRefusal};
 ghost use Rattle.sheet.specs.Refused.{refusal_text};
 ghost use Rattle.sheet.specs.Filling.{Filled};
-ghost use Rattle.sheet.specs.Page.{sealed_problem};
 ghost use Rattle.sheet.specs.Printing.{IsPrinted, SomePrinted, fault_text, Shown};
 ghost use Rattle.sheet.specs.Requests.{request_in};
 
@@ -24,7 +23,7 @@ use survey::draft::Draft;
 use survey::sealed::Sealed;
 use survey_file::reader::FileReader;
 
-/// How many bytes a sheet may have.
+/// How many bytes a sheet may have that a program prints.
 pub const PAGE: usize = 65536;
 
 // How many bytes are read at once.
@@ -32,7 +31,7 @@ const PIECE: usize = 4096;
 
 /// A request from its bytes: start, end and bound, of two bytes each, high byte first.
 ///
-/// Under six bytes it is cut short, and refused like a file with 1 and place 0. Bytes behind the six are left alone.
+/// Under six bytes it is cut short, and refused like a file, with 1 and place 0. Bytes behind the six are left alone.
 pub fn request_in(bytes: &[u8]) -> Result<Request, Fault>
     ensures value { result ≡ request_in bytes.now }
     ensures enough { OnOk result (6 ≤ length bytes.now) }
@@ -51,8 +50,9 @@ pub fn request_in(bytes: &[u8]) -> Result<Request, Fault>
     })
 }
 
-// Reads once, to the front of the buffer; how many bytes came. They come by way of a piece of our own, since a reader may
-// write behind the bytes that it counts.
+// Reads once, to the front of the buffer; how many bytes came.
+//
+// They come by way of a piece of our own, since a reader may write behind the bytes that it counts.
 fn read_piece<R: Read>(source: &mut R, buffer: &mut [u8]) -> io::Result<usize>
     ensures ok { IfOk result (Filled R.Read source.old source.new buffer.old buffer.new) }
     ensures end { IfOk result (λ n. n ≡ 0 → 0 < length buffer.old → IsAtEnd (R.Read.remaining source.new)) }
@@ -68,7 +68,7 @@ fn read_piece<R: Read>(source: &mut R, buffer: &mut [u8]) -> io::Result<usize>
 
 /// Fills the buffer from a reader, as far as that gives bytes; how many came.
 ///
-/// The bytes behind them stay as they were. On an error of the reader, what came before it is at the front of the buffer.
+/// The bytes behind them stay as they were. Where the reader fails, what came before that is at the front of the buffer.
 pub fn fill<R: Read>(source: &mut R, buffer: &mut [u8]) -> io::Result<usize>
     ensures ok { IfOk result (Filled R.Read source.old source.new buffer.old buffer.new) }
     ensures all { IfOk result (λ n. n < length buffer.old → IsAtEnd (R.Read.remaining source.new)) }
@@ -110,7 +110,9 @@ pub fn print_refusal<W: Write>(out: &mut W, refused: Refused) -> anyhow::Result<
     print_text(out, refusal_text(refused).as_bytes())
 }
 
-/// The survey of a file, or none where the file is refused, and then the line of the fault is printed.
+/// The survey of a file, or none where the file is refused: then the line of its fault is printed.
+///
+/// Memory is taken for a reader and for the survey.
 pub fn survey_in<W: Write>(
     alloc: Global,
     out: &mut W,
@@ -138,7 +140,7 @@ fn print_page<W: Write>(
     steps: &[Step],
     page: &mut [u8],
 ) -> anyhow::Result<()>
-    ensures { OnOk result (SomePrinted W.Write out.old out.new (Shown (sealed_problem survey.now request) steps.now (length page.old))) }
+    ensures { OnOk result (SomePrinted W.Write out.old out.new (Shown survey.now request steps.now (length page.old))) }
 {
     match sheet(survey, request, steps, page) {
         Ok(length) => print_text(out, &page[..length]),
@@ -146,7 +148,9 @@ fn print_page<W: Write>(
     }
 }
 
-/// Prints the sheet of the steps over a survey, which may have so many bytes, or the line of why there is none.
+/// Prints the sheet of the steps over a survey, or the line of why there is none.
+///
+/// A sheet may have `most` bytes, and memory for so many is taken.
 pub fn print_sheet<W: Write>(
     alloc: Global,
     out: &mut W,
@@ -155,7 +159,7 @@ pub fn print_sheet<W: Write>(
     steps: &[Step],
     most: usize,
 ) -> anyhow::Result<()>
-    ensures { OnOk result (SomePrinted W.Write out.old out.new (Shown (sealed_problem survey.now request) steps.now most)) }
+    ensures { OnOk result (SomePrinted W.Write out.old out.new (Shown survey.now request steps.now most)) }
 {
     let mut page = vec![in alloc; 0u8; most]?;
     print_page(out, survey, request, steps, &mut page)
@@ -189,8 +193,8 @@ mod tests {
         Ok(())
     }
 
-    // There is memory for a survey: a file of one place is read and nothing printed, and one without bytes is refused and its fault
-    // printed.
+    // There is memory for a survey: a file of one place is read and nothing printed, and one without bytes is refused and
+    // its fault printed.
     #[test]
     fn a_survey_is_read(rt: HostRuntime) -> Result<(), Fail> {
         let file = [1, 0, 2, 0, 1, 2, 0, 0, 4, 0, 0];

@@ -7,7 +7,9 @@ ghost use Rattle.sheet.specs.Refused.{refusal_text};
 use crate::text::TextLine;
 use subject::refusal::{Fault, Refusal};
 
-/// What was refused: a call, or a file with the byte place of its fault.
+/// What was refused: a call, or a survey file or a request in bytes, with the byte place of the fault.
+///
+/// A place so goes with refusals of a file alone, which have the numbers 1 to 10.
 #[derive(Clone, Copy, Debug, PartialEq, Eq)]
 pub enum Refused {
     Call(Refusal),
@@ -30,8 +32,8 @@ pub(crate) fn refusal_text(refused: Refused) -> TextLine
     line
 }
 
-/// The line of a refusal, into the front of the bytes, and how long it is: REFUSED, the number and, for a file, the byte
-/// place.
+/// The line of a refusal, into the front of the bytes, and how long it is: REFUSED, the number and, for a file, the
+/// byte place.
 ///
 /// Refused with 18 where the line does not fit, and all bytes stay.
 pub fn refusal_line(refused: Refused, out: &mut [u8]) -> Result<usize, Refusal>

@@ -3,11 +3,11 @@ use itoa::Buffer;
 use subject::refusal::Refusal;
 use survey_file::bytes::put;
 
-/// One line of text, of at most 128 bytes, which is laid piece by piece.
-///
-/// It takes no memory. `write!` into an `ArrayString` would not either, but has no clause that says when it is `Ok`.
+// One line of text, of at most 128 bytes, which grows piece by piece and takes no memory.
+//
+// It is no `ArrayString` with `write!`: no clause says that this is `Ok` where there is room.
 #[derive(Drop)]
-pub struct TextLine {
+pub(crate) struct TextLine {
     text: ArrayVec<u8, 128>,
 }
 
