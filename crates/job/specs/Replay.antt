@@ -10,6 +10,8 @@ use Rattle.subject.specs.Problems.{Problem}
 use Rattle.subject.specs.Runs.{IsLeast, NoLawfulRun}
 use Rattle.search.specs.declared.check.RowCounts.{RowCounts}
 use Rattle.search.specs.Memories.{LentMemory, counts_of}
+use Rattle.search.specs.Owned.{owned_memory}
+use Rattle.search.specs.declared.owned.OwnedRows.{OwnedRows}
 use Rattle.planner.specs.declared.plan.Planned.{Planned}
 use Rattle.planner.specs.Outcome.{PlanOutcome, PlanPasses, PlanCause}
 use Rattle.job.specs.declared.list.Call.{Call}
@@ -61,6 +63,13 @@ pub record ReplayOutcome {C Q : Type 0} (J : JobState C) (q : QueueGhosts Q C) (
   pub before : LentMemory C Q
   pub listed : CallsOutcome J q h before entries'
   pub next : PlanOutcome (problem_on (state_after_all J (calls_of entries)) request) q before h' r
+
+-- the same over cell rows and run rows that a program owns, with a queue that is handed in and used up: with some queue that it
+-- comes to
+abbrev pub OwnedReplay : {C Q : Type 0} → JobState C → QueueGhosts Q C → Q → Request → List (Entry C) → List (Entry C)
+    → OwnedRows C → OwnedRows C → Result (Planned C) Refusal → Type 0
+OwnedReplay {C} {Q} J q queue request entries entries' rows rows' r =
+    (queue' : Q) × ReplayOutcome J q request entries entries' (owned_memory rows queue) (owned_memory rows' queue') r
 
 -- a job could not be set up for want of memory: nothing was tried, and all is as it was
 pub record IsUntouched {C Q : Type 0} (entries entries' : List (Entry C)) (h h' : LentMemory C Q) : Type 0 where
