@@ -1,11 +1,12 @@
 -- The site that a floor of rows and columns is. The place in a row and a column has the number row × columns + column.
--- From the place p the ways 4 × p, 4 × p + 1, 4 × p + 2 and 4 × p + 3 go right, left, down and up; a way that would leave
--- the floor is shut. Stands on what a site is.
-use Rattle.std.specs.Prelude.{ℕ, ◌+◌, ◌-◌, ◌*◌, ◌/◌, ◌%◌, Bool, cond, Some, None, Option, ◌==◌, nat_le, nat_lt}
+-- From the place p the ways 4 × p, 4 × p + 1, 4 × p + 2 and 4 × p + 3 go right, left, down and up; a way that would
+-- leave the floor is shut. Stands on what a site is.
+use Rattle.std.specs.Prelude.{ℕ, ◌+◌, ◌-◌, ◌*◌, ◌/◌, ◌%◌, ◌<◌, ◌≤◌, cond, Some, None, Option, ◌==◌, nat_lt}
 use Rattle.subject.specs.declared.way.Way.{Way}
 use Rattle.subject.specs.Sites.{SiteMeaning}
-use Rattle.grid.specs.declared.grid.floor.Direction.{Direction}
-use Rattle.grid.specs.declared.grid.floor.Direction.TheVariants.{Right, Left, Down, Up}
+use Rattle.grid.specs.declared.grid.TheConstants.{MOST_SIDE}
+use Rattle.grid.specs.declared.grid.Direction.{Direction}
+use Rattle.grid.specs.declared.grid.Direction.TheVariants.{Right, Left, Down, Up}
 
 pub record Floor (C : Type 0) : Type 0 where
   pub rows : ℕ
@@ -17,11 +18,12 @@ pub record Floor (C : Type 0) : Type 0 where
   pub repeater : Option C
 
 abbrev pub floor : {C : Type 0} → ℕ → ℕ → C → ℕ → Option C → Floor C
-floor rows columns charge loss repeater = record { rows = rows; columns = columns; charge = charge; loss = loss; repeater = repeater }
+floor rows columns charge loss repeater =
+    record { rows = rows; columns = columns; charge = charge; loss = loss; repeater = repeater }
 
--- a side has 1 to 64 places
-abbrev pub side_fits : ℕ → Bool
-side_fits side = cond (nat_lt 0 side) (nat_le side 64) (nat_lt 0 side)
+-- a side has at least one place
+abbrev pub IsSide : ℕ → Type 0
+IsSide side = (0 < side) × (side ≤ MOST_SIDE)
 
 -- the place in a row and a column
 abbrev pub place_at : ℕ → ℕ → ℕ → ℕ
@@ -58,14 +60,21 @@ towards rows columns row column direction =
 abbrev pub neighbour : ℕ → ℕ → ℕ → ℕ → Option ℕ
 neighbour rows columns place direction = towards rows columns (place / columns) (place % columns) direction
 
+abbrev pub place_count : {C : Type 0} → Floor C → ℕ
+place_count f = f.rows * f.columns
+
 abbrev pub way_to : {C : Type 0} → Floor C → ℕ → Option ℕ → Option (Way C)
 way_to f from None = None
 way_to f from (Some to) = Some (record { from = from; to = to; charge = f.charge; loss = f.loss })
 
+-- a way by its number, or none where it would leave the floor
+abbrev pub way_of : {C : Type 0} → Floor C → ℕ → Option (Way C)
+way_of f n = way_to f (n / 4) (neighbour f.rows f.columns (n / 4) (n % 4))
+
 abbrev pub floor_site : {C : Type 0} → Floor C → SiteMeaning C
 floor_site f = record {
-  places = f.rows * f.columns;
-  ways = 4 * (f.rows * f.columns);
-  repeater = λ p. cond (nat_lt p (f.rows * f.columns)) f.repeater None;
-  way = λ n. cond (nat_lt n (4 * (f.rows * f.columns))) (way_to f (n / 4) (neighbour f.rows f.columns (n / 4) (n % 4))) None;
+  places = place_count f;
+  ways = 4 * place_count f;
+  repeater = λ p. cond (nat_lt p (place_count f)) f.repeater None;
+  way = λ n. cond (nat_lt n (4 * place_count f)) (way_of f n) None;
 }

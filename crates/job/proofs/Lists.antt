@@ -55,12 +55,12 @@ module _ {C Q : Type 0} (q : QueueGhosts Q C) where
       let more : take at es ++ e ∷ [] ≡ take (at + 1) (set es at e) = sym (rw add-one (take-suc-set es at e inside)) in
       let calls : calls_of (take at es ++ e ∷ []) ≡ calls_of (take at es) ++ e.call ∷ [] = map-append (λ (z : Entry C). z.call) (take at es) (e ∷ []) in (
         fun_ext marks
-        ∙ ap (λ (b : ℕ → Bool). after_call ways b e.call) is
-        ∙ sym (after_more ways J.book (calls_of (take at es)) e.call)
-        ∙ ap (λ (cs : List Call). after_calls ways J.book cs) (sym calls)
-        ∙ ap (λ (z : List (Entry C)). after_calls ways J.book (calls_of z)) more,
+            ∙ ap (λ (b : ℕ → Bool). after_call ways b e.call) is
+            ∙ sym (after_more ways J.book (calls_of (take at es)) e.call)
+            ∙ ap (λ (cs : List Call). after_calls ways J.book cs) (sym calls)
+            ∙ ap (λ (z : List (Entry C)). after_calls ways J.book (calls_of z)) more,
         subst (λ (z : List (Entry C)). CallsOutcome J q h h' z) more
-        (calls-append J h mid h' (take at es) e t (subst (λ (b : ℕ → Bool). CallOutcome (with_book J b) q mid h' e.call e.answer) is u)),
+            (calls-append J h mid h' (take at es) e t (subst (λ (b : ℕ → Bool). CallOutcome (with_book J b) q mid h' e.call e.answer) is u)),
       )
 
 -- writing what stands there already changes nothing

@@ -1,10 +1,11 @@
 -- What trying a list of calls on a job does, and what a plan made next on that job answers. Stands on runs, on the promise of a
 -- plan, and on the closing book.
-use Rattle.std.specs.Prelude.{◌≡◌, List, [], ◌∷◌, map, take, Result, MatchResult}
+use Rattle.std.specs.Prelude.{◌≡◌, ℕ, Bool, List, [], ◌∷◌, map, take, Result, MatchResult}
 use Rattle.subject.specs.declared.queue.PriorityQueue.{Ghosts as QueueGhosts}
 use Rattle.subject.specs.declared.refusal.Refusal.{Refusal}
 use Rattle.subject.specs.declared.refusal.Refusal.TheVariants.{NoRun}
 use Rattle.subject.specs.declared.run.Request.{Request}
+use Rattle.subject.specs.declared.site.Site.{Ghosts as SiteGhosts}
 use Rattle.subject.specs.declared.run.Step.{Step}
 use Rattle.subject.specs.Problems.{Problem}
 use Rattle.subject.specs.Runs.{IsLeast, NoLawfulRun}
@@ -14,16 +15,21 @@ use Rattle.search.specs.Owned.{owned_memory}
 use Rattle.search.specs.declared.owned.OwnedRows.{OwnedRows}
 use Rattle.planner.specs.declared.plan.Planned.{Planned}
 use Rattle.planner.specs.Outcome.{PlanOutcome, PlanPasses, PlanCause}
+use Rattle.job.specs.declared.job.Job.{Job}
 use Rattle.job.specs.declared.list.Call.{Call}
 use Rattle.job.specs.declared.list.Call.TheVariants.{Close, Reopen, Plan}
 use Rattle.job.specs.declared.list.Answer.{Answer}
 use Rattle.job.specs.declared.list.Entry.{Entry}
 use Rattle.job.specs.Book.{closing, reopening, after_call, after_calls}
 use Rattle.job.specs.Gives.{of_change, of_plan}
-use Rattle.job.specs.Jobs.{JobState, problem_on, with_book}
+use Rattle.job.specs.Jobs.{JobState, problem_on, with_book, way_count, closed_by}
 
 abbrev pub calls_of : {C : Type 0} → List (Entry C) → List Call
 calls_of entries = map (λ e. e.call) entries
+
+-- the closing book of a job after the listed calls
+abbrev pub book_after : {S C : Type 0} → SiteGhosts S C → Job S → List (Entry C) → ℕ → Bool
+book_after s j entries = after_calls (way_count s j) (closed_by j) (calls_of entries)
 
 -- the job after one call, and after a list of calls, one by one
 abbrev pub state_after : {C : Type 0} → JobState C → Call → JobState C
@@ -51,7 +57,7 @@ CallsOutcome {C} {Q} J q h h' (e ∷ es) =
 -- not pass, the first cause is told.
 pub record PlanLaw {C : Type 0} (P : Problem C) (counts : RowCounts) (run' : List Step) (r : Result (Planned C) Refusal) : Type 0 where
   pub passing : PlanPasses P counts
-    → MatchResult r (λ p. IsLeast P (take p.steps run') p.total) (λ e. (e ≡ NoRun) × NoLawfulRun P)
+      → MatchResult r (λ p. IsLeast P (take p.steps run') p.total) (λ e. (e ≡ NoRun) × NoLawfulRun P)
   pub stopped : (PlanPasses P counts → ⊥) → MatchResult r (λ p. ⊥) (λ e. PlanCause P counts e)
 
 -- a list of calls tried on a job, and then a plan for a request: the calls are as they were, each answer is right, the law holds of

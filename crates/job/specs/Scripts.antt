@@ -10,7 +10,7 @@ use Rattle.job.specs.declared.list.Entry.{Entry}
 use Rattle.job.specs.Replay.{calls_of}
 use Rattle.job.specs.declared.script.Script.{Script}
 use Rattle.job.specs.declared.script.Trouble.{Trouble}
-use Rattle.job.specs.Texts.{NoCall, lines_text, TextOf, FirstLine}
+use Rattle.job.specs.Texts.{IsNoCall, lines_text, TextOf, FirstLine}
 use Rattle.job.specs.declared.script.Trouble.TheVariants as trouble
 
 -- none of the entries is tried yet
@@ -31,20 +31,20 @@ pub record BadLine (text : List ℕ) (number : ℕ) : Type 0 where
   pub before : text ≡ lines_text calls ++ rest
   pub some : rest ≡ [] → ⊥
   pub first : FirstLine rest line others
-  pub no_call : NoCall line
+  pub no_call : IsNoCall line
   pub counted : number ≡ length calls + 1
 
-abbrev pub NotPlan : Call → Type 0
-NotPlan (Close w) = Unit {0}
-NotPlan (Reopen w) = Unit {0}
-NotPlan (Plan q) = ⊥
+abbrev pub IsNotPlan : Call → Type 0
+IsNotPlan (Close w) = Unit {0}
+IsNotPlan (Reopen w) = Unit {0}
+IsNotPlan (Plan q) = ⊥
 
 -- the text is that of calls, so many that the last has this number, and that one is no plan
 pub record EndsWithoutPlan (calls : List Call) (number : ℕ) : Type 0 where
   pub before : List Call
   pub last : Call
   pub all : calls ≡ before ++ last ∷ []
-  pub no_plan : NotPlan last
+  pub no_plan : IsNotPlan last
   pub counted : number ≡ length calls
 
 -- why a list of calls that was read is no script

@@ -34,8 +34,8 @@ Counted (Reopen w) = w < 2 ^ 64
 Counted (Plan q) = (q.start < 2 ^ 64) × (q.end < 2 ^ 64) × (q.bound < 2 ^ 64)
 
 -- the text is that of no call
-abbrev pub NoCall : List ℕ → Type 0
-NoCall text = (c : Call) → Counted c → text ≢ call_text c
+abbrev pub IsNoCall : List ℕ → Type 0
+IsNoCall text = (c : Call) → Counted c → text ≢ call_text c
 
 -- the lines of some calls, each with a line feed behind it
 abbrev pub lines_text : List Call → List ℕ

@@ -1,27 +1,27 @@
-// One line of the text.
-ghost use Rattle.std.specs.Prelude.{◌≡◌, ℕ, ◌^◌, ◌<◌, IfOk, Some, string_bytes, decimal, MatchOption};
+//! The text of one call.
+ghost use Rattle.std.specs.Prelude.{◌≡◌, ℕ, ◌^◌, ◌<◌, IfOk, Some, string_bytes, decimal, IfNone, IfSome};
 ghost use Rattle.subject.specs.declared.run.Request.{Request as Asked};
 ghost use Rattle.job.specs.declared.list.Call.{Call as Asking};
 ghost use Rattle.job.specs.declared.list.Call.TheVariants.{Plan};
-ghost use Rattle.job.specs.Texts.{request_text, call_text, Counted, NoCall};
+ghost use Rattle.job.specs.Texts.{request_text, call_text, Counted, IsNoCall};
 
 use crate::list::Call;
-use subject::run::Request;
 use std::alloc::{AllocError, Global};
 use std::str::from_utf8;
+use subject::run::Request;
 
-// The text of a call. (No Display of a call: that would have to stand where calls do, in job, which knows of no text.)
-pub fn text_of(heap: Global, call: Call) -> Result<String, AllocError>
+/// The text of a call.
+pub fn text_of(alloc: Global, call: Call) -> Result<String, AllocError>
     ensures { IfOk result (λ s. string_bytes s ≡ call_text call) }
 {
     match call {
-        Call::Close(way) => format!(in heap; "close {way}"),
-        Call::Reopen(way) => format!(in heap; "reopen {way}"),
+        Call::Close(way) => format!(in alloc; "close {way}"),
+        Call::Reopen(way) => format!(in alloc; "reopen {way}"),
         Call::Plan(request) => {
             let start = request.start;
             let end = request.end;
             let bound = request.bound;
-            format!(in heap; "plan {start} {end} {bound}")
+            format!(in alloc; "plan {start} {end} {bound}")
         }
     }
 }
@@ -66,23 +66,25 @@ fn words_say(line: &str) -> Option<Call>
     }
 }
 
-// The call of which the line is the text, to the byte, or none.
-pub fn read_call(heap: Global, line: &str) -> Result<Option<Call>, AllocError>
-    ensures { IfOk result (λ o. MatchOption o (NoCall line.now) (λ c. line.now ≡ call_text c)) }
+/// The call of which the line is the text, to the byte, or none.
+pub fn read_call(alloc: Global, line: &str) -> Result<Option<Call>, AllocError>
+    ensures some { IfOk result (λ o. IfSome o (λ c. line.now ≡ call_text c)) }
+    ensures none { IfOk result (λ o. IfNone o (IsNoCall line.now)) }
 {
     let Some(call) = words_say(line) else {
         return Ok(None);
     };
-    let text = text_of(heap, call)?;
+    let text = text_of(alloc, call)?;
     Ok((text.as_str() == line).then_some(call))
 }
 
-// The same of bytes; a line that is not UTF-8 is the text of no call.
-pub fn read_line(heap: Global, line: &[u8]) -> Result<Option<Call>, AllocError>
-    ensures { IfOk result (λ o. MatchOption o (NoCall line.now) (λ c. line.now ≡ call_text c)) }
+/// The same of bytes; a line that is not UTF-8 is the text of no call.
+pub fn read_line(alloc: Global, line: &[u8]) -> Result<Option<Call>, AllocError>
+    ensures some { IfOk result (λ o. IfSome o (λ c. line.now ≡ call_text c)) }
+    ensures none { IfOk result (λ o. IfNone o (IsNoCall line.now)) }
 {
     let Ok(text) = from_utf8(line) else {
         return Ok(None);
     };
-    read_call(heap, text)
+    read_call(alloc, text)
 }

@@ -3,7 +3,7 @@ ghost use Rattle.subject.specs.declared.site.TheConstants.{MOST_WAYS};
 
 use std::alloc::{AllocError, Global};
 use subject::refusal::Refusal;
-use subject::site::{MOST_WAYS as MARKS, Site};
+use subject::site::{MOST_WAYS, Site};
 use subject::way::Way;
 
 /// A site with some of its ways closed for the while.
@@ -26,9 +26,7 @@ impl<S: Site> Site for Job<S> {
 
     ghost meaning = { λ j. shutting (S.Site.meaning (site_below j)) (closed_by j) };
 
-    ghost is_bounded = {
-        λ j. shutting_bounded (S.Site.meaning (site_below j)) (closed_by j) (S.Site.is_bounded (site_below j))
-    };
+    ghost is_bounded = { λ j. shutting_bounded (S.Site.meaning (site_below j)) (closed_by j) (S.Site.is_bounded (site_below j)) };
 
     fn places(&self) -> usize {
         self.below.places()
@@ -67,7 +65,7 @@ fn open_marks(alloc: Global) -> Result<Vec<bool>, AllocError>
     ensures full { IfOk result (λ v. vec_len v ≡ MOST_WAYS) }
     ensures open { IfOk result (λ v. (n : ℕ) → slice_index_or v.items n false ≡ false) }
 {
-    vec![in alloc; false; MARKS]
+    vec![in alloc; false; MOST_WAYS]
 }
 
 impl<S: Site + Drop> Job<S> {
@@ -95,9 +93,7 @@ impl<S: Site> Job<S> {
     pub fn close(&mut self, way: usize) -> Result<(), Refusal>
         ensures below { site_below self.new ≡ site_below self.old }
         ensures answer { result ≡ closing (way_count S.Site self.old) (closed_by self.old) way }
-        ensures marks {
-            (n : ℕ) → closed_by self.new n ≡ after_closing (way_count S.Site self.old) (closed_by self.old) way n
-        }
+        ensures marks { (n : ℕ) → closed_by self.new n ≡ after_closing (way_count S.Site self.old) (closed_by self.old) way n }
     {
         if way >= self.below.ways() {
             return Err(Refusal::NoSuchWay);
@@ -114,9 +110,7 @@ impl<S: Site> Job<S> {
     pub fn reopen(&mut self, way: usize) -> Result<(), Refusal>
         ensures below { site_below self.new ≡ site_below self.old }
         ensures answer { result ≡ reopening (way_count S.Site self.old) (closed_by self.old) way }
-        ensures marks {
-            (n : ℕ) → closed_by self.new n ≡ after_reopening (way_count S.Site self.old) (closed_by self.old) way n
-        }
+        ensures marks { (n : ℕ) → closed_by self.new n ≡ after_reopening (way_count S.Site self.old) (closed_by self.old) way n }
     {
         if way >= self.below.ways() {
             return Err(Refusal::NoSuchWay);

@@ -1,4 +1,5 @@
-// Jobs: a site with some of its ways closed for the while, and lists of calls tried on a job.
+//! Jobs: a site with some of its ways closed for the while; lists of calls tried on a job; and such lists as text, a call to a line:
+//! "close W", "reopen W" or "plan START END BOUND".
 #![tactic(auto)]
 
 pub mod call_text;

@@ -1,8 +1,8 @@
 ghost use Rattle.std.specs.Prelude.{◌≡◌, ℕ, IfOk, OnErr};
 ghost use Rattle.search.specs.Memories.{lent_memory, SameLenders};
-ghost use Rattle.job.specs.Book.{after_call, after_calls, empty_book};
+ghost use Rattle.job.specs.Book.{after_call, empty_book};
 ghost use Rattle.job.specs.Jobs.{site_below, closed_by, way_count, state_of, state_over};
-ghost use Rattle.job.specs.Replay.{calls_of, CallOutcome, CallsOutcome, ReplayOutcome, OwnedReplay, IsUntouched};
+ghost use Rattle.job.specs.Replay.{book_after, calls_of, CallOutcome, CallsOutcome, ReplayOutcome, OwnedReplay, IsUntouched};
 
 use crate::job::Job;
 use crate::list::{Answer, Call, Entry};
@@ -25,14 +25,10 @@ fn attempt<S: Site, Q: PriorityQueue<Charge = S::Charge>>(
     run: &mut [Step],
 ) -> Answer<S::Charge>
     ensures below { site_below job.new ≡ site_below job.old }
-    ensures book {
-        (n : ℕ) → closed_by job.new n ≡ after_call (way_count S.Site job.old) (closed_by job.old) call n
-    }
-    ensures outcome {
-        CallOutcome (state_of S.Site S.Charge.Charge job.old) Q.PriorityQueue
-            (record { cells = cells.old; queue = queue.old; run = run.old })
-            (record { cells = cells.new; queue = queue.new; run = run.new }) call result
-    }
+    ensures book { (n : ℕ) → closed_by job.new n ≡ after_call (way_count S.Site job.old) (closed_by job.old) call n }
+    ensures outcome { CallOutcome (state_of S.Site S.Charge.Charge job.old) Q.PriorityQueue
+        (record { cells = cells.old; queue = queue.old; run = run.old })
+        (record { cells = cells.new; queue = queue.new; run = run.new }) call result }
     ensures lenders { Q.PriorityQueue.lenders queue.new ≡ Q.PriorityQueue.lenders queue.old }
 {
     match call {
@@ -52,14 +48,10 @@ fn try_all<S: Site, Q: PriorityQueue<Charge = S::Charge>>(
 )
     ensures below { site_below job.new ≡ site_below job.old }
     ensures calls { calls_of entries.new ≡ calls_of entries.old }
-    ensures book {
-        (n : ℕ) → closed_by job.new n ≡ after_calls (way_count S.Site job.old) (closed_by job.old) (calls_of entries.old) n
-    }
-    ensures listed {
-        CallsOutcome (state_of S.Site S.Charge.Charge job.old) Q.PriorityQueue
-            (record { cells = cells.old; queue = queue.old; run = run.old })
-            (record { cells = cells.new; queue = queue.new; run = run.new }) entries.new
-    }
+    ensures book { (n : ℕ) → closed_by job.new n ≡ book_after S.Site job.old entries.old n }
+    ensures listed { CallsOutcome (state_of S.Site S.Charge.Charge job.old) Q.PriorityQueue
+        (record { cells = cells.old; queue = queue.old; run = run.old })
+        (record { cells = cells.new; queue = queue.new; run = run.new }) entries.new }
     ensures lenders { Q.PriorityQueue.lenders queue.new ≡ Q.PriorityQueue.lenders queue.old }
 {
     for entry in entries.iter_mut() {
@@ -81,14 +73,10 @@ pub fn replay_slices<S: Site, Q: PriorityQueue<Charge = S::Charge>>(
     run: &mut [Step],
 ) -> Result<Planned<S::Charge>, Refusal>
     ensures below { site_below job.new ≡ site_below job.old }
-    ensures book {
-        (n : ℕ) → closed_by job.new n ≡ after_calls (way_count S.Site job.old) (closed_by job.old) (calls_of entries.old) n
-    }
-    ensures replayed {
-        ReplayOutcome (state_of S.Site S.Charge.Charge job.old) Q.PriorityQueue request entries.old entries.new
-            (record { cells = cells.old; queue = queue.old; run = run.old })
-            (record { cells = cells.new; queue = queue.new; run = run.new }) result
-    }
+    ensures book { (n : ℕ) → closed_by job.new n ≡ book_after S.Site job.old entries.old n }
+    ensures replayed { ReplayOutcome (state_of S.Site S.Charge.Charge job.old) Q.PriorityQueue request entries.old entries.new
+        (record { cells = cells.old; queue = queue.old; run = run.old })
+        (record { cells = cells.new; queue = queue.new; run = run.new }) result }
     ensures lenders { Q.PriorityQueue.lenders queue.new ≡ Q.PriorityQueue.lenders queue.old }
 {
     try_all(job, entries, cells, queue, run);
@@ -103,16 +91,19 @@ pub fn replay_on<S: Site, Q: PriorityQueue<Charge = S::Charge>>(
     memory: &mut Memory<'_, S::Charge, Q>,
 ) -> Result<Planned<S::Charge>, Refusal>
     ensures below { site_below job.new ≡ site_below job.old }
-    ensures book {
-        (n : ℕ) → closed_by job.new n ≡ after_calls (way_count S.Site job.old) (closed_by job.old) (calls_of entries.old) n
-    }
-    ensures replayed {
-        ReplayOutcome (state_of S.Site S.Charge.Charge job.old) Q.PriorityQueue request entries.old entries.new
-            (lent_memory memory.old) (lent_memory memory.new) result
-    }
+    ensures book { (n : ℕ) → closed_by job.new n ≡ book_after S.Site job.old entries.old n }
+    ensures replayed { ReplayOutcome (state_of S.Site S.Charge.Charge job.old) Q.PriorityQueue request entries.old entries.new
+        (lent_memory memory.old) (lent_memory memory.new) result }
     ensures same { SameLenders Q.PriorityQueue memory.old memory.new }
 {
-    replay_slices(job, entries, request, memory.cells, &mut memory.queue, memory.run)
+    replay_slices(
+        job,
+        entries,
+        request,
+        memory.cells,
+        &mut memory.queue,
+        memory.run,
+    )
 }
 
 /// Does as `replay_slices`, over rows that the caller owns, with a queue that is handed in, for example
@@ -125,15 +116,18 @@ pub fn replay_on_owned<S: Site, Q: PriorityQueue<Charge = S::Charge> + Drop>(
     mut queue: Q,
 ) -> Result<Planned<S::Charge>, Refusal>
     ensures below { site_below job.new ≡ site_below job.old }
-    ensures book {
-        (n : ℕ) → closed_by job.new n ≡ after_calls (way_count S.Site job.old) (closed_by job.old) (calls_of entries.old) n
-    }
-    ensures replayed {
-        OwnedReplay (state_of S.Site S.Charge.Charge job.old) Q.PriorityQueue queue request entries.old entries.new
-            rows.old rows.new result
-    }
+    ensures book { (n : ℕ) → closed_by job.new n ≡ book_after S.Site job.old entries.old n }
+    ensures replayed { OwnedReplay (state_of S.Site S.Charge.Charge job.old) Q.PriorityQueue queue request entries.old entries.new
+        rows.old rows.new result }
 {
-    replay_slices(job, entries, request, &mut rows.cells, &mut queue, &mut rows.run)
+    replay_slices(
+        job,
+        entries,
+        request,
+        &mut rows.cells,
+        &mut queue,
+        &mut rows.run,
+    )
 }
 
 /// Sets up a job over a site, and then does as `replay_on`. Only the set-up takes memory: the outer result says whether it
@@ -145,14 +139,10 @@ pub fn replay<S: Site + Drop, Q: PriorityQueue<Charge = S::Charge>>(
     request: Request,
     memory: &mut Memory<'_, S::Charge, Q>,
 ) -> Result<Result<Planned<S::Charge>, Refusal>, AllocError>
-    ensures ok {
-        IfOk result (λ planned.
-            ReplayOutcome (state_over S.Site S.Charge.Charge site empty_book) Q.PriorityQueue request entries.old entries.new
-                (lent_memory memory.old) (lent_memory memory.new) planned)
-    }
-    ensures err {
-        OnErr result (IsUntouched entries.old entries.new (lent_memory memory.old) (lent_memory memory.new))
-    }
+    ensures ok { IfOk result (λ planned.
+        ReplayOutcome (state_over S.Site S.Charge.Charge site empty_book) Q.PriorityQueue request entries.old entries.new
+        (lent_memory memory.old) (lent_memory memory.new) planned) }
+    ensures err { OnErr result (IsUntouched entries.old entries.new (lent_memory memory.old) (lent_memory memory.new)) }
     ensures same { SameLenders Q.PriorityQueue memory.old memory.new }
 {
     let mut job = Job::new(alloc, site)?;
@@ -169,11 +159,9 @@ pub fn replay_owned<S: Site + Drop, Q: PriorityQueue<Charge = S::Charge> + Drop>
     rows: &mut OwnedRows<S::Charge>,
     queue: Q,
 ) -> Result<Result<Planned<S::Charge>, Refusal>, AllocError>
-    ensures ok {
-        IfOk result (λ planned.
-            OwnedReplay (state_over S.Site S.Charge.Charge site empty_book) Q.PriorityQueue queue request
-                entries.old entries.new rows.old rows.new planned)
-    }
+    ensures ok { IfOk result (λ planned.
+        OwnedReplay (state_over S.Site S.Charge.Charge site empty_book) Q.PriorityQueue queue request
+        entries.old entries.new rows.old rows.new planned) }
     ensures err { OnErr result ((entries.new ≡ entries.old) × (rows.new ≡ rows.old)) }
 {
     let mut job = Job::new(alloc, site)?;

@@ -1,34 +1,34 @@
-// A whole text: the calls that are tried, and the plan that is made at the end.
-ghost use Rattle.std.specs.Prelude.{◌≡◌, ℕ, ◌<◌, ◌≤◌, ◌≢◌, [], ◌∷◌, ◌++◌, length, Some, IfOk, MatchOption, MatchResult, slice_index};
+//! A whole text: the calls that are tried, and the plan that is made at the end.
+ghost use Rattle.std.specs.Prelude.{◌≡◌, ℕ, ◌<◌, ◌≤◌, ◌≢◌, [], ◌∷◌, ◌++◌, length, Some, IfErr, IfNone, IfOk, IfSome, slice_index};
 ghost use Rattle.job.specs.declared.list.Call.TheVariants.{Plan};
 ghost use Rattle.job.specs.Replay.{calls_of};
 ghost use Rattle.std.specs.List.{AllByRecursion};
 ghost use Rattle.job.specs.Covering.{Covers, larger, largest};
 ghost use Rattle.job.specs.Texts.{TextOf, FirstLine};
-ghost use Rattle.job.specs.Scripts.{AllUntried, NotPlan, EndTrouble, TroubleOf, ScriptOf, trouble_text};
+ghost use Rattle.job.specs.Scripts.{AllUntried, IsNotPlan, EndTrouble, TroubleOf, ScriptOf, trouble_text};
 
 use crate::call_text::read_line;
-use subject::money::Money;
 use crate::list::{Answer, Call, Entry};
-use subject::run::Request;
 use std::alloc::{AllocError, Global};
 use std::fmt;
+use subject::money::Money;
+use subject::run::{MOST_BOUND, Request};
 
-// the calls before the last, none of them tried yet, and the request of the last
+/// The calls before the last, none of them tried yet, and the request of the last
 #[derive(Drop)]
 pub struct Script {
     pub entries: Vec<Entry<Money>>,
     pub last: Request,
 }
 
-// why a text is not a script
+/// Why a text is not a script.
 #[derive(Clone, Copy, Debug)]
 pub enum Trouble {
-    // the line with this number, from 1, is the first that is the text of no call
+    /// The line with this number, from 1, is the first that is the text of no call
     NoCall(u64),
-    // every line is the text of a call, but the last, with this number, is no plan
+    /// Every line is the text of a call, but the last, with this number, is no plan
     NoPlan(u64),
-    // there are no lines
+    /// There are no lines.
     NoLines,
 }
 
@@ -70,17 +70,18 @@ fn cut_line(text: &[u8]) -> (&[u8], &[u8])
     }
 }
 
-// The calls of the lines, in their order, none of them tried yet, or the number of the first line that is none. (A result in a
-// result: the outer one says whether there was memory, the inner one what the text is, and every clause speaks of that. The loop
-// cuts a line at a time off what is left and counts nothing by hand.)
-fn read_lines(heap: Global, text: &[u8]) -> Result<Result<Vec<Entry<Money>>, Trouble>, AllocError>
-    ensures { IfOk result (λ s. MatchResult s (λ v. TextOf text.now (calls_of v.items) × AllUntried v.items) (λ t. TroubleOf text.now t)) }
+// The calls of the lines, in their order, none of them tried yet, or the number of the first line that is none. The outer result
+// says whether there was memory.
+fn read_lines(alloc: Global, text: &[u8]) -> Result<Result<Vec<Entry<Money>>, Trouble>, AllocError>
+    ensures ok { IfOk result (λ r. IfOk r (λ v. TextOf text.now (calls_of v.items))) }
+    ensures untried { IfOk result (λ r. IfOk r (λ v. AllUntried v.items)) }
+    ensures trouble { IfOk result (λ r. IfErr r (TroubleOf text.now)) }
 {
-    let mut entries = Vec::new(heap);
+    let mut entries = Vec::new(alloc);
     let mut rest = text;
     while !rest.is_empty() {
         let (line, others) = cut_line(rest);
-        match read_line(heap, line)? {
+        match read_line(alloc, line)? {
             Some(call) => entries.push(Entry {
                 call,
                 answer: Answer::Untried,
@@ -94,7 +95,8 @@ fn read_lines(heap: Global, text: &[u8]) -> Result<Result<Vec<Entry<Money>>, Tro
 
 // The request of a plan, or none where the call is no plan.
 fn request_of(call: Call) -> Option<Request>
-    ensures { MatchOption result (NotPlan call) (λ q. call ≡ Plan q) }
+    ensures some { IfSome result (λ q. call ≡ Plan q) }
+    ensures none { IfNone result (IsNotPlan call) }
 {
     match call {
         Call::Plan(request) => Some(request),
@@ -104,7 +106,9 @@ fn request_of(call: Call) -> Option<Request>
 
 // The script of the calls that were read: the last of them has to be a plan.
 fn script_of(mut entries: Vec<Entry<Money>>) -> Result<Script, Trouble>
-    ensures { MatchResult result (λ s. (calls_of entries.items ≡ calls_of s.entries.items ++ Plan s.last ∷ []) × (AllUntried entries.items → AllUntried s.entries.items)) (λ t. EndTrouble (calls_of entries.items) t) }
+    ensures calls { IfOk result (λ s. calls_of entries.items ≡ calls_of s.entries.items ++ Plan s.last ∷ []) }
+    ensures untried { IfOk result (λ s. AllUntried entries.items → AllUntried s.entries.items) }
+    ensures trouble { IfErr result (EndTrouble (calls_of entries.items)) }
 {
     let lines = entries.len() as u64;
     let entry = entries.pop().ok_or(Trouble::NoLines)?;
@@ -112,40 +116,41 @@ fn script_of(mut entries: Vec<Entry<Money>>) -> Result<Script, Trouble>
     Ok(Script { entries, last })
 }
 
-// The script of the bytes of a text, or why they are none. (The outer result says whether there was memory.)
-pub fn read_script_bytes(heap: Global, text: &[u8]) -> Result<Result<Script, Trouble>, AllocError>
-    ensures { IfOk result (λ s. MatchResult s (λ script. ScriptOf text.now script) (λ t. TroubleOf text.now t)) }
+/// The script of the bytes of a text, or why they are none. The outer result says whether there was memory.
+pub fn read_script_bytes(alloc: Global, text: &[u8]) -> Result<Result<Script, Trouble>, AllocError>
+    ensures script { IfOk result (λ r. IfOk r (ScriptOf text.now)) }
+    ensures trouble { IfOk result (λ r. IfErr r (TroubleOf text.now)) }
 {
-    Ok(read_lines(heap, text)?.and_then(script_of))
+    Ok(read_lines(alloc, text)?.and_then(script_of))
 }
 
-// The script of a text, or why it is none. (The outer result says whether there was memory.)
-pub fn read_script(heap: Global, text: &str) -> Result<Result<Script, Trouble>, AllocError>
-    ensures script { IfOk result (λ s. IfOk s (λ script. TextOf text.now (calls_of script.entries.items ++ Plan script.last ∷ []))) }
-    ensures whole { IfOk result (λ s. MatchResult s (λ script. ScriptOf text.now script) (λ t. TroubleOf text.now t)) }
+/// The script of a text, or why it is none. The outer result says whether there was memory.
+pub fn read_script(alloc: Global, text: &str) -> Result<Result<Script, Trouble>, AllocError>
+    ensures script { IfOk result (λ r. IfOk r (ScriptOf text.now)) }
+    ensures trouble { IfOk result (λ r. IfErr r (TroubleOf text.now)) }
 {
-    read_script_bytes(heap, text.as_bytes())
+    read_script_bytes(alloc, text.as_bytes())
 }
 
 // The larger of a bound and that of a call, if it is a plan with a bound that can be asked for.
 fn larger_bound(bound: usize, call: Call) -> usize
-    requires { bound ≤ 1000 }
-    ensures low { result ≤ 1000 }
+    requires { bound ≤ MOST_BOUND }
+    ensures low { result ≤ MOST_BOUND }
     ensures grows { bound ≤ result }
     ensures covers { Covers result call }
     ensures value { result ≡ larger bound call }
 {
     match call {
-        Call::Plan(request) if request.bound <= 1000 => bound.max(request.bound),
+        Call::Plan(request) if request.bound <= MOST_BOUND => bound.max(request.bound),
         _ => bound,
     }
 }
 
 impl Script {
-    // The largest bound of the plans of the script, as far as it can be asked for: no plan needs more rows than one with it.
+    /// The largest bound of the plans of the script, as far as it can be asked for: no plan needs more rows than one with it.
     pub fn largest_bound(&self) -> usize
         ensures value { result ≡ largest 0 (Plan self.now.last ∷ calls_of self.now.entries.items) }
-        ensures low { result ≤ 1000 }
+        ensures low { result ≤ MOST_BOUND }
         ensures last { Covers result (Plan self.now.last) }
         ensures listed { AllByRecursion (λ e. Covers result e.call) self.now.entries.items }
     {

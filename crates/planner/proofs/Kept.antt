@@ -4,10 +4,9 @@ use Rattle.std.proofs.Common.{ℕ, min, sym, refl, ap, ◌∙◌}
 use Rattle.subject.specs.declared.queue.PriorityQueue.{Ghosts as QueueGhosts}
 use Rattle.subject.specs.Problems.{Problem}
 use Rattle.search.specs.Columns.{SameIndex}
-use Rattle.search.proofs.Tables.{room_kept, indexed_kept, same_lenders}
+use Rattle.search.proofs.Tables.{room_kept, indexed_kept}
 use Rattle.planner.specs.declared.workspace.Workspace.{Workspace}
 use Rattle.planner.specs.Workspaces.{IsReady, SameWorkspace, ReadyStays}
-use Rattle.search.specs.Cells.{cell_count}
 
 module _ {C Q : Type 0} {q : QueueGhosts Q C} where
   pub untouched : {w : Workspace C Q} → SameWorkspace q w w

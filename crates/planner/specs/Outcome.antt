@@ -1,6 +1,6 @@
 -- What a plan answers and what it leaves, for every problem and number of rows. Stands on runs, and on the causes for which a
 -- request is refused before any search.
-use Rattle.std.specs.Prelude.{◌≡◌, ℕ, ◌≤◌, ◌⊎◌, List, length, take, drop, Result, MatchResult}
+use Rattle.std.specs.Prelude.{◌≡◌, ◌≤◌, ◌⊎◌, List, length, take, drop, Result, MatchResult}
 use Rattle.subject.specs.declared.queue.PriorityQueue.{Ghosts as QueueGhosts}
 use Rattle.subject.specs.declared.refusal.Refusal.{Refusal}
 use Rattle.subject.specs.declared.refusal.Refusal.TheVariants.{NoRun}
@@ -39,8 +39,8 @@ PlanRefused P counts h h' e =
 -- queue has as many rows as before
 pub record PlanOutcome {C Q : Type 0} (P : Problem C) (q : QueueGhosts Q C) (h h' : LentMemory C Q) (r : Result (Planned C) Refusal) : Type 0 where
   pub answer : MatchResult r
-    (λ p. PlanPasses P (counts_of q h) × RunHandedOut P h.run h'.run p)
-    (λ e. PlanRefused P (counts_of q h) h h' e)
+      (λ p. PlanPasses P (counts_of q h) × RunHandedOut P h.run h'.run p)
+      (λ e. PlanRefused P (counts_of q h) h h' e)
   pub rows : q.rows h'.queue ≡ q.rows h.queue
 
 -- the same for cell rows and run rows that a program owns, and a queue that is handed in and used up: with some queue that it

@@ -23,10 +23,8 @@ impl<S: Site> Query<'_, S> {
     )
         requires ready { IsReady (problem self.now) Q.PriorityQueue work.old }
         requires turn { IsTurn (problem self.now) Q.PriorityQueue work.old from }
-        requires goes {
-            let P = problem self.now in
-            IsStepOver P (place_of P from.at) (loss_of P from.at) step w
-        }
+        requires goes { let P = problem self.now in
+            IsStepOver P (place_of P from.at) (loss_of P from.at) step w }
         ensures still { TurnStays (problem self.now) Q.PriorityQueue work.old work.new from }
         ensures covered { CoversStep (problem self.now) Q.PriorityQueue work.new from step w }
     {

@@ -12,9 +12,7 @@ fn put_first<C>(cells: &mut [CellRow<C>], at: usize, n: usize)
     requires way { n < length cells.old }
     ensures cells { cells_of cells.new ≡ cells_of cells.old }
     ensures heads { heads_of cells.new ≡ slice_set (heads_of cells.old) at (Some n) }
-    ensures nexts {
-        nexts_of cells.new ≡ slice_set (nexts_of cells.old) n (slice_index_or (heads_of cells.old) at None)
-    }
+    ensures nexts { nexts_of cells.new ≡ slice_set (nexts_of cells.old) n (slice_index_or (heads_of cells.old) at None) }
 {
     cells[n].next = cells[at].head;
     cells[at].head = Some(n);
@@ -38,10 +36,8 @@ pub fn build<S: Site>(site: &S, cells: &mut [CellRow<S::Charge>])
     requires places { (S.Site.meaning site.now).places ≤ length cells.old }
     requires empty { (p : ℕ) → slice_index_or (heads_of cells.old) p None ≡ None }
     ensures cells { cells_of cells.new ≡ cells_of cells.old }
-    ensures indexed {
-        let m = S.Site.meaning site.now in
-        IsIndexed m (heads_of cells.new) (nexts_of cells.new) (min m.ways (length cells.old))
-    }
+    ensures indexed { let m = S.Site.meaning site.now in
+        IsIndexed m (heads_of cells.new) (nexts_of cells.new) (min m.ways (length cells.old)) }
 {
     let limit = site.ways().min(cells.len());
     for n in 0..limit {

@@ -32,9 +32,7 @@ impl<S: Site> Query<'_, S> {
         work: &mut Workspace<'_, '_, S::Charge, Q>,
         run: &mut [Step],
     ) -> Result<Planned<S::Charge>, Refusal>
-        requires room {
-            RoomSuffices (problem self.now) (length work.old.cells.now) (Q.PriorityQueue.rows work.old.queue.now)
-        }
+        requires room { RoomSuffices (problem self.now) (length work.old.cells.now) (Q.PriorityQueue.rows work.old.queue.now) }
         requires start { self.now.request.start < (problem self.now).site.places }
         requires steps { length work.old.cells.now ≤ length run.old }
         ensures same { SameWorkspace Q.PriorityQueue work.old work.new }
@@ -59,11 +57,9 @@ pub fn plan_slices<S: Site, Q: PriorityQueue<Charge = S::Charge>>(
     queue: &mut Q,
     run: &mut [Step],
 ) -> Result<Planned<S::Charge>, Refusal>
-    ensures outcome {
-        PlanOutcome (problem_of S.Site S.Charge.Charge site.now request) Q.PriorityQueue
-            (record { cells = cells.old; queue = queue.old; run = run.old })
-            (record { cells = cells.new; queue = queue.new; run = run.new }) result
-    }
+    ensures outcome { PlanOutcome (problem_of S.Site S.Charge.Charge site.now request) Q.PriorityQueue
+        (record { cells = cells.old; queue = queue.old; run = run.old })
+        (record { cells = cells.new; queue = queue.new; run = run.new }) result }
     ensures lenders { Q.PriorityQueue.lenders queue.new ≡ Q.PriorityQueue.lenders queue.old }
 {
     let counts = RowCounts {
@@ -84,10 +80,8 @@ pub fn plan<S: Site, Q: PriorityQueue<Charge = S::Charge>>(
     request: Request,
     memory: &mut Memory<'_, S::Charge, Q>,
 ) -> Result<Planned<S::Charge>, Refusal>
-    ensures outcome {
-        PlanOutcome (problem_of S.Site S.Charge.Charge site.now request) Q.PriorityQueue
-            (lent_memory memory.old) (lent_memory memory.new) result
-    }
+    ensures outcome { PlanOutcome (problem_of S.Site S.Charge.Charge site.now request) Q.PriorityQueue
+        (lent_memory memory.old) (lent_memory memory.new) result }
     ensures same { SameLenders Q.PriorityQueue memory.old memory.new }
 {
     plan_slices(site, request, memory.cells, &mut memory.queue, memory.run)
@@ -101,10 +95,8 @@ pub fn plan_owned<S: Site, Q: PriorityQueue<Charge = S::Charge> + Drop>(
     rows: &mut OwnedRows<S::Charge>,
     mut queue: Q,
 ) -> Result<Planned<S::Charge>, Refusal>
-    ensures {
-        OwnedOutcome (problem_of S.Site S.Charge.Charge site.now request) Q.PriorityQueue
-            queue rows.old rows.new result
-    }
+    ensures { OwnedOutcome (problem_of S.Site S.Charge.Charge site.now request) Q.PriorityQueue
+        queue rows.old rows.new result }
 {
     plan_slices(site, request, &mut rows.cells, &mut queue, &mut rows.run)
 }

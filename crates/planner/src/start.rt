@@ -26,9 +26,7 @@ impl<S: Site> Query<'_, S> {
         &self,
         work: &mut Workspace<'_, '_, S::Charge, Q>,
     )
-        requires room {
-            RoomSuffices (problem self.now) (length work.old.cells.now) (Q.PriorityQueue.rows work.old.queue.now)
-        }
+        requires room { RoomSuffices (problem self.now) (length work.old.cells.now) (Q.PriorityQueue.rows work.old.queue.now) }
         requires start { self.now.request.start < (problem self.now).site.places }
         ensures ready { IsReady (problem self.now) Q.PriorityQueue work.new }
         ensures same { SameWorkspace Q.PriorityQueue work.old work.new }

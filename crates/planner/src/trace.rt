@@ -14,12 +14,7 @@ use subject::run::Step;
 use subject::site::Site;
 
 // Goes back over a link: writes its step at the place `at`, and answers how the cell that it was taken from was reached.
-fn one_back<C: Charge>(
-    cells: &[CellRow<C>],
-    link: Link,
-    run: &mut [Step],
-    at: usize,
-) -> Reached<C>
+fn one_back<C: Charge>(cells: &[CellRow<C>], link: Link, run: &mut [Step], at: usize) -> Reached<C>
     requires inside { at < length run.old }
     requires reached { IsSome (reached_in (cells_of cells.now) link.from) }
     ensures wrote { run.new ≡ slice_set run.old at link.step }

@@ -55,9 +55,7 @@ impl<C: Charge, Q: PriorityQueue<Charge = C>> Workspace<'_, '_, C, Q> {
         ensures same { SameWorkspace Q.PriorityQueue self.old self.new }
         ensures index { SameIndex self.old.cells.now self.new.cells.now }
         ensures cells { cells_of self.new.cells.now ≡ slice_set (cells_of self.old.cells.now) at (Waiting new) }
-        ensures put {
-            IsPut (Q.PriorityQueue.waits self.old.queue.now) (Q.PriorityQueue.waits self.new.queue.now) at new.charge
-        }
+        ensures put { IsPut (Q.PriorityQueue.waits self.old.queue.now) (Q.PriorityQueue.waits self.new.queue.now) at new.charge }
     {
         self.cells[at].cell = Cell::Waiting(new);
         let _ = self.queue.put(at, new.charge);
@@ -69,16 +67,12 @@ impl<C: Charge, Q: PriorityQueue<Charge = C>> Workspace<'_, '_, C, Q> {
         requires room { at < Q.PriorityQueue.rows self.old.queue.now }
         requires ordered { Q.PriorityQueue.is_ordered self.old.queue.now }
         requires agree { QueueAgrees (cells_of self.old.cells.now) (Q.PriorityQueue.waits self.old.queue.now) }
-        requires low {
-            (e : C) → done_in (cells_of self.old.cells.now) at ≡ Some e → C.Charge.no_more e new.charge ≡ true
-        }
+        requires low { (e : C) → done_in (cells_of self.old.cells.now) at ≡ Some e → C.Charge.no_more e new.charge ≡ true }
         ensures ordered { Q.PriorityQueue.is_ordered self.new.queue.now }
         ensures same { SameWorkspace Q.PriorityQueue self.old self.new }
         ensures index { SameIndex self.old.cells.now self.new.cells.now }
-        ensures offered {
-            OfferOutcome (kind_of C.Charge) (cells_of self.old.cells.now) (cells_of self.new.cells.now)
-                (Q.PriorityQueue.waits self.old.queue.now) (Q.PriorityQueue.waits self.new.queue.now) at new
-        }
+        ensures offered { OfferOutcome (kind_of C.Charge) (cells_of self.old.cells.now) (cells_of self.new.cells.now)
+            (Q.PriorityQueue.waits self.old.queue.now) (Q.PriorityQueue.waits self.new.queue.now) at new }
     {
         if is_better(self.cells[at].cell, new.charge) {
             self.wait(at, new);

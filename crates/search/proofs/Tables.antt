@@ -12,7 +12,6 @@ use Rattle.subject.specs.Queues.{IsPut}
 use Rattle.search.specs.Rows.{settled_as, waits_as, settled_row, waits_row, done_in, QueueAgrees, OfferOutcome, improves, RoomSuffices}
 use Rattle.subject.specs.declared.queue.PriorityQueue.{Ghosts as QueueGhosts}
 use Rattle.search.specs.Columns.{SameIndex, cells_of, heads_of, nexts_of, blank_row}
-use Rattle.std.specs.Borrow.{GName}
 use Rattle.search.specs.Memories.{SameLenders}
 use Rattle.search.specs.declared.memory.Memory.{Memory}
 use Rattle.search.specs.Index.{IsIndexed}
@@ -22,7 +21,6 @@ use Rattle.search.specs.declared.cell.Cell.TheVariants.{Unseen, Waiting, Settled
 use Rattle.search.specs.declared.cell.Reached.{Reached}
 use Rattle.search.proofs.Covers.{no_more-self}
 use Rattle.subject.specs.Problems.{Problem}
-use Rattle.search.specs.Cells.{cell_count}
 
 pub nth_set_other : {X : Type 0} (xs : List X) (i k : ℕ) (a : X) → k ≢ i → slice_get (set xs i a) k ≡ slice_get xs k
 nth_set_other xs i k a ne = grind (arith, common_steps, gets)

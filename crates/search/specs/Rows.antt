@@ -1,6 +1,6 @@
 -- The rows of cells as the state of a search: which of them are settled and which wait, how each was reached, and the run
 -- that they tell. Stands on the search's state.
-use Rattle.std.specs.Prelude.{◌≡◌, ℕ, ◌+◌, ◌*◌, ◌^◌, ◌<◌, ◌≤◌, Bool, true, false, not, ◌⊎◌, List, [], ◌∷◌, length, Some, None, Option, slice_set}
+use Rattle.std.specs.Prelude.{◌≡◌, ℕ, ◌+◌, ◌^◌, ◌<◌, ◌≤◌, Bool, true, false, not, ◌⊎◌, List, [], ◌∷◌, length, Some, None, Option, slice_set}
 use Rattle.std.specs.List.{slice_get}
 use Rattle.subject.specs.Charges.{Kind}
 use Rattle.subject.specs.declared.way.Way.{Way}

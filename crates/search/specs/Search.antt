@@ -1,6 +1,6 @@
 -- The state of a search, as two maps from cell numbers to charges, `done` for the settled cells and `waits` for those in
 -- the queue; and what the search keeps true of it. Stands on runs and cells.
-use Rattle.std.specs.Prelude.{◌≡◌, ℕ, ◌+◌, ◌≤◌, Bool, true, false, ◌≢◌, ◌⊎◌, Some, Option}
+use Rattle.std.specs.Prelude.{◌≡◌, ℕ, ◌+◌, ◌≤◌, Bool, true, ◌≢◌, ◌⊎◌, Some, Option}
 use Rattle.subject.specs.Charges.{Kind}
 use Rattle.subject.specs.declared.way.Way.{Way}
 use Rattle.subject.specs.declared.run.Step.{Step}

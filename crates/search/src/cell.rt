@@ -10,8 +10,8 @@ pub struct Link {
     pub step: Step,
 }
 
-/// How a cell was reached: with the lowest charge found for it, over which link (the start's cell has none), and in how
-// many steps from the start.
+/// How a cell was reached: with the lowest charge found for it, over which link, and in how many steps from the start. The
+/// start's cell has no link.
 #[derive(Clone, Copy)]
 pub struct Reached<C> {
     pub charge: C,
@@ -19,22 +19,23 @@ pub struct Reached<C> {
     pub steps: usize,
 }
 
-// What the search knows of a cell, which is a place together with a loss: to stand there, having lost that much since the
-// last repeater.
+/// What the search knows of a cell. A cell is a place together with a loss: to be there, having lost that much since the
+/// last repeater.
 #[derive(Clone, Copy)]
 pub enum Cell<C> {
-    // never reached
+    /// Never reached.
     Unseen,
-    // reached, and in the queue
+    /// Reached, and in the queue.
     Waiting(Reached<C>),
-    // taken from the queue
+    /// Taken from the queue.
     Settled(Reached<C>),
 }
 
-// A row of working memory serves three numbers at once. Of the cell with the row's number it holds what is known. Of the
-// place with that number it holds `hint`, a cell of the place that was settled lately, and `head`, the largest way that
-// leaves the place. Of the way with that number it holds `next`, the next smaller way that leaves the same place.
-// (The lists of ways are linked by number inside the rows, since the lent rows are all the memory that a plan has.)
+/// A row of cells, which serves three numbers at once, since the lent rows are all the memory that a plan has.
+///
+/// Of the cell with the row's number it has what is known. Of the place with that number it has `hint`, a cell of the place
+/// that was settled lately, and `head`, the largest way that leaves the place. Of the way with that number it has `next`,
+/// the next smaller way that leaves the same place.
 #[derive(Clone, Copy)]
 pub struct CellRow<C> {
     pub cell: Cell<C>,
@@ -44,7 +45,7 @@ pub struct CellRow<C> {
 }
 
 impl<C: Copy> Cell<C> {
-    // How the cell was reached, if it was.
+    /// How the cell was reached, if it was.
     pub fn reached(self) -> Option<Reached<C>>
         ensures { result ≡ reached_as self }
     {
@@ -56,7 +57,7 @@ impl<C: Copy> Cell<C> {
 }
 
 impl<C> CellRow<C> {
-    // A row that tells nothing: no cell was reached, and no way is in the index.
+    /// A row that tells nothing: no cell was reached, and no way is in the index.
     pub fn blank() -> CellRow<C>
         ensures { result ≡ blank_row }
     {

@@ -1,5 +1,6 @@
-// What a search for a least run counts on: the checks before it, single steps over ways, the rows of working memory, and
-// the argument why keeping them so suffices (specs/ and proofs/). The search itself stands in another crate.
+//! What a search for a least run counts on: the checks before it, single steps over ways, and the rows of working memory.
+//!
+//! The argument why keeping the rows so suffices is in specs/ and proofs/; the search itself is in the crate `planner`.
 #![tactic(auto)]
 
 pub mod cell;

@@ -1,10 +1,11 @@
 //! Working memory in vectors, for programs that plan.
-ghost use Rattle.std.specs.Prelude.{◌≡◌, IfOk, replicate};
+ghost use Rattle.std.specs.Prelude.{◌≡◌, IfOk};
 ghost use Rattle.search.specs.Owned.{Holds, blank_filling};
 
 use crate::cell::CellRow;
 use crate::memory::Memory;
 use std::alloc::{AllocError, Global};
+use subject::rows::rows_of;
 use subject::run::Step;
 
 /// What each row holds before a plan uses it.
@@ -45,8 +46,8 @@ impl<C: Copy> OwnedRows<C> {
     ) -> Result<OwnedRows<C>, AllocError>
         ensures { IfOk result (λ r. Holds count filling r) }
     {
-        let cells = alike(alloc, filling.cell, count)?;
-        let run = alike(alloc, filling.step, count)?;
+        let cells = rows_of(alloc, filling.cell, count)?;
+        let run = rows_of(alloc, filling.step, count)?;
         Ok(OwnedRows { cells, run })
     }
 
@@ -69,17 +70,6 @@ impl<C: Copy> OwnedRows<C> {
             run: &mut self.run,
         }
     }
-}
-
-/// So many rows that are all the same. They are pushed one by one, since the clones that `vec!` makes are not known to be the row.
-pub fn alike<R: Copy>(alloc: Global, row: R, count: usize) -> Result<Vec<R>, AllocError>
-    ensures { IfOk result (λ v. v.items ≡ replicate count row) }
-{
-    let mut rows = Vec::with_capacity(alloc, count)?;
-    for _ in 0..count {
-        rows.push(row)?;
-    }
-    Ok(rows)
 }
 
 #[cfg(test)]

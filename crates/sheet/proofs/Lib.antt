@@ -1,5 +1,4 @@
 pub mod Growing
 pub mod Stepping
-pub mod Drawn
+pub mod Following
 mod Fills
-mod Fronts

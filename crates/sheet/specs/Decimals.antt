@@ -2,7 +2,7 @@
 use Rattle.std.specs.Prelude.{◌≡◌, ℕ, ◌<◌, [], ◌∷◌, decimal, slice_index}
 use Rattle.std.specs.Str.Parse.{IsNumeral, digits_value}
 
-pub record PlainDecimal (n : ℕ) : Type 0 where
+pub record IsPlainDecimal (n : ℕ) : Type 0 where
   -- the bytes are decimal digits, at least one
   pub digits : IsNumeral 10 (decimal n)
   -- which read as the number

@@ -2,8 +2,9 @@ pub mod Decimals
 pub mod Lines
 pub mod Refused
 pub mod Sheet
+pub mod Drawings
 pub mod Page
-pub mod Stands
+pub mod Positions
 pub mod Filling
 pub mod Requests
 pub mod Printing

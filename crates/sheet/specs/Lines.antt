@@ -6,5 +6,6 @@ use Rattle.sheet.specs.declared.text.TextLine.{TextLine}
 abbrev pub text_of : TextLine → List ℕ
 text_of l = l.text.items
 
-abbrev pub pushed : List ℕ → List ℕ → List ℕ
-pushed text piece = cond (nat_le (length text + length piece) 128) (text ++ piece) text
+-- a text and a piece behind it, or the text alone where the piece does not fit
+abbrev pub text_and : List ℕ → List ℕ → List ℕ
+text_and text piece = cond (nat_le (length text + length piece) 128) (text ++ piece) text

@@ -1,11 +1,11 @@
-// What programs print: decimal numbers, refusal lines and the sheet of a run.
+// What programs read and print: decimal numbers, refusal lines, the sheet of a run, requests and survey files.
 #![tactic(auto)]
 
 pub mod digits;
-pub mod lines;
+mod lines;
 pub mod page;
 pub mod pricing;
 pub mod print;
 pub mod refused;
-pub mod steps;
-pub mod text;
+mod steps;
+mod text;

@@ -1,4 +1,4 @@
-// The lines of a sheet. (Why these, and those in refused.rt, are laid by hand and are no `Display`: see `TextLine`.)
+// The lines of a sheet.
 ghost use Rattle.std.specs.Prelude.{◌≡◌};
 ghost use Rattle.sheet.specs.Lines.{text_of};
 ghost use Rattle.sheet.specs.Sheet.{run_line, mark_end, step_line, total_line};
@@ -32,7 +32,7 @@ pub(crate) fn step_line(way: usize, from: usize, to: usize, loss: usize, mark: b
     line
 }
 
-// What stands at the end of a step's line.
+// The end of a step's line.
 fn mark_end(mark: bool) -> &'static [u8]
     ensures { result.now ≡ mark_end mark }
 {
@@ -45,6 +45,6 @@ pub(crate) fn total_line(total: Money) -> TextLine
 {
     let mut line = TextLine::new();
     line.push(b"TOTAL ");
-    line.push_number_then(total.counted(), b'\n');
+    line.push_number_then(total.amount(), b'\n');
     line
 }

@@ -1,35 +1,41 @@
-// What the programs share: a request in six bytes, standard input up to a number of bytes, a survey file, and sheets and refusals in
-// print.
-ghost use Rattle.std.specs.Prelude.{◌≡◌, ℕ, ◌≤◌, List, length, replicate, Ok, IfOk, IsErr, OnOk, MatchOption};
+// What programs read and print: a request in six bytes, standard input up to a number of bytes, survey files, sheets
+// and refusals.
+ghost use Rattle.std.specs.Prelude.{◌≡◌, ℕ, ◌<◌, ◌≤◌, length, drop, IfOk, IfErr, OnOk, OnErr};
+ghost use Rattle.std.specs.Io.KnownBytes.{IsAtEnd, Keeps};
+ghost use Rattle.std.specs.Option.{option_map};
+ghost use Rattle.std.specs.Result.{result_ok};
 ghost use Rattle.survey.specs.Sealing.{sealed_contents};
 ghost use Rattle.survey_file.specs.Decode.{decode};
-ghost use Rattle.survey.specs.SurveySite.{money_site};
-ghost use Rattle.std.specs.Io.KnownBytes.{Appends};
-ghost use Rattle.survey_file.specs.Pieces.{put_answer, put_bytes};
-ghost use Rattle.sheet.specs.Refused.{refusal_text, fault_text};
+ghost use Rattle.survey_file.specs.Fields.{IsFileRefusal};
+ghost use Rattle.sheet.specs.Refused.{refusal_text};
 ghost use Rattle.sheet.specs.Filling.{Filled};
-ghost use Rattle.sheet.specs.Printing.{fault_line_of, Shown};
+ghost use Rattle.sheet.specs.Printing.{IsPrinted, SomePrinted, fault_text, Shown};
 ghost use Rattle.sheet.specs.Requests.{request_in};
 
-use anyhow::anyhow;
-use subject::refusal::{Fault, Refusal};
 use crate::page::sheet;
-use crate::refused::{fault_line, refusal_line};
-use subject::run::{Request, Step};
+use crate::refused::{Refused, refusal_text};
 use std::alloc::Global;
 use std::io;
 use std::io::{Read, Write};
+use subject::refusal::{Fault, Refusal};
+use subject::run::{Request, Step};
 use survey::draft::Draft;
 use survey::sealed::Sealed;
 use survey_file::reader::FileReader;
 
-// How long a sheet may be.
+/// How many bytes a sheet may have that a program prints.
 pub const PAGE: usize = 65536;
 
-// A request is a start, an end and a bound, of two bytes each, high byte first. Under six bytes it is cut short.
+// How many bytes are read at once.
+const PIECE: usize = 4096;
+
+/// A request from its bytes: start, end and bound, of two bytes each, high byte first.
+///
+/// Under six bytes it is cut short, and refused like a file, with 1 and place 0. Bytes behind the six are left alone.
 pub fn request_in(bytes: &[u8]) -> Result<Request, Fault>
     ensures value { result ≡ request_in bytes.now }
     ensures enough { OnOk result (6 ≤ length bytes.now) }
+    ensures refusal { IfErr result (λ f. IsFileRefusal f.refusal) }
 {
     let [s0, s1, e0, e1, b0, b1, ..] = bytes else {
         return Err(Fault {
@@ -44,16 +50,33 @@ pub fn request_in(bytes: &[u8]) -> Result<Request, Fault>
     })
 }
 
-// Fills the buffer from a reader, as far as that gives bytes; how many came. (Tried with `take`: no clause of the library bounds what
-// it lets through. So the buffer bounds what is read, and the count stands beside it.)
-#[tactic(auto, using(crate::proofs::Fills::front, crate::proofs::Fills::both_given))]
+// Reads once, to the front of the buffer; how many bytes came.
+//
+// They come by way of a piece of our own, since a reader may write behind the bytes that it counts.
+fn read_piece<R: Read>(source: &mut R, buffer: &mut [u8]) -> io::Result<usize>
+    ensures ok { IfOk result (Filled R.Read source.old source.new buffer.old buffer.new) }
+    ensures end { IfOk result (λ n. n ≡ 0 → 0 < length buffer.old → IsAtEnd (R.Read.remaining source.new)) }
+    ensures err { OnErr result (Keeps (R.Read.remaining source.old) (R.Read.remaining source.new)) }
+    ensures unchanged { OnErr result (buffer.new ≡ buffer.old) }
+{
+    let mut piece = [0u8; PIECE];
+    let most = buffer.len().min(PIECE);
+    let count = source.read(&mut piece[..most])?;
+    buffer[..count].copy_from_slice(&piece[..count]);
+    Ok(count)
+}
+
+/// Fills the buffer from a reader, as far as that gives bytes; how many came.
+///
+/// The bytes behind them stay as they were. Where the reader fails, what came before that is at the front of the buffer.
 pub fn fill<R: Read>(source: &mut R, buffer: &mut [u8]) -> io::Result<usize>
-    ensures within { IfOk result (λ n. n ≤ length buffer.old) }
-    ensures filled { IfOk result (λ n. Filled (R.Read.remaining source.old) (R.Read.remaining source.new) n buffer.new) }
+    ensures ok { IfOk result (Filled R.Read source.old source.new buffer.old buffer.new) }
+    ensures all { IfOk result (λ n. n < length buffer.old → IsAtEnd (R.Read.remaining source.new)) }
+    ensures err { OnErr result ((n : ℕ) × Filled R.Read source.old source.new buffer.old buffer.new n) }
 {
     let mut at = 0;
-    for _ in 0..buffer.len() {
-        let count = source.read(&mut buffer[at..])?;
+    while at < buffer.len() {
+        let count = read_piece(source, &mut buffer[at..])?;
         if count == 0 {
             return Ok(at);
         }
@@ -62,72 +85,54 @@ pub fn fill<R: Read>(source: &mut R, buffer: &mut [u8]) -> io::Result<usize>
     Ok(at)
 }
 
-// The same from standard input.
+/// Fills the buffer from standard input, as far as that gives bytes; how many came.
+///
+/// The bytes behind them stay as they were.
 pub fn read_input(rt: &HostRuntime, buffer: &mut [u8]) -> io::Result<usize>
-    ensures { IfOk result (λ n. n ≤ length buffer.old) }
+    ensures fits { IfOk result (λ n. n ≤ length buffer.old) }
+    ensures behind { IfOk result (λ n. drop n buffer.new ≡ drop n buffer.old) }
 {
     fill(&mut rt.stdin(), buffer)
 }
 
 // Prints a text to a writer.
 fn print_text<W: Write>(out: &mut W, text: &[u8]) -> anyhow::Result<()>
-    ensures { OnOk result (Appends (W.Write.contents out.old) (W.Write.contents out.new) text.now) }
+    ensures { OnOk result (IsPrinted W.Write out.old out.new text.now) }
 {
     out.write_all(text)?;
     Ok(())
 }
 
-// Prints a piece that was laid to the front of bytes; an error where they were too few for it.
-#[tactic(auto, using(crate::proofs::Fronts::appended))]
-fn print_laid<W: Write>(
+/// Prints the line of a refusal: REFUSED, its number and, for a file, the byte place.
+pub fn print_refusal<W: Write>(out: &mut W, refused: Refused) -> anyhow::Result<()>
+    ensures { OnOk result (IsPrinted W.Write out.old out.new (refusal_text refused)) }
+{
+    print_text(out, refusal_text(refused).as_bytes())
+}
+
+/// The survey of a file, or none where the file is refused: then the line of its fault is printed.
+///
+/// Memory is taken for a reader and for the survey.
+pub fn survey_in<W: Write>(
+    alloc: Global,
     out: &mut W,
-    laid: Result<usize, Refusal>,
-    text: &[u8],
-) -> anyhow::Result<()>
-    ensures { (bytes piece : List ℕ) → laid ≡ put_answer bytes 0 piece → text.now ≡ put_bytes bytes 0 piece → OnOk result (Appends (W.Write.contents out.old) (W.Write.contents out.new) piece) }
+    file: &[u8],
+) -> anyhow::Result<Option<Sealed>>
+    ensures survey { IfOk result (λ o. option_map sealed_contents o ≡ result_ok (decode file.now)) }
+    ensures printed { OnOk result (IsPrinted W.Write out.old out.new (fault_text (decode file.now))) }
 {
-    match laid {
-        Ok(length) if length <= text.len() => print_text(out, &text[..length]),
-        _ => Err(anyhow!("a line is longer than the bytes for it")),
-    }
-}
-
-// Prints the line of a fault in a file. (The line is laid into bytes that are lent, since to make it takes no memory; it has less
-// than 64.)
-pub fn print_fault<W: Write>(out: &mut W, fault: Fault) -> anyhow::Result<()>
-    ensures { OnOk result (Appends (W.Write.contents out.old) (W.Write.contents out.new) (fault_text fault)) }
-{
-    let mut text = [0u8; 64];
-    let laid = fault_line(fault, &mut text);
-    print_laid(out, laid, &text)
-}
-
-// Prints the line of a refusal. (The same; the two differ in the call that makes the line.)
-pub fn print_refusal<W: Write>(out: &mut W, refusal: Refusal) -> anyhow::Result<()>
-    ensures { OnOk result (Appends (W.Write.contents out.old) (W.Write.contents out.new) (refusal_text refusal)) }
-{
-    let mut text = [0u8; 64];
-    let laid = refusal_line(refusal, &mut text);
-    print_laid(out, laid, &text)
-}
-
-// The survey of a file, or none where the file is refused, and then the line of the fault is printed.
-pub fn survey_in<W: Write>(heap: Global, out: &mut W, file: &[u8]) -> anyhow::Result<Option<Sealed>>
-    ensures survey { IfOk result (λ o. MatchOption o (IsErr (decode file.now)) (λ s. decode file.now ≡ Ok (sealed_contents s))) }
-    ensures printed { OnOk result (Appends (W.Write.contents out.old) (W.Write.contents out.new) (fault_line_of (decode file.now))) }
-{
-    let mut reader = FileReader::new(heap)?;
-    let mut draft = Draft::new(heap)?;
+    let mut reader = FileReader::new(alloc)?;
+    let mut draft = Draft::new(alloc)?;
     match reader.read(file, &mut draft) {
         Ok(()) => Ok(Some(draft.seal())),
         Err(fault) => {
-            print_fault(out, fault)?;
+            print_refusal(out, Refused::File(fault))?;
             Ok(None)
         }
     }
 }
 
-// Prints the sheet of the steps over a survey, or why there is none, on a page that is lent.
+// Prints the sheet of the steps over a survey, or why there is none, by way of a page that is lent.
 fn print_page<W: Write>(
     out: &mut W,
     survey: &Sealed,
@@ -135,27 +140,28 @@ fn print_page<W: Write>(
     steps: &[Step],
     page: &mut [u8],
 ) -> anyhow::Result<()>
-    ensures { OnOk result ((text : List ℕ) × Shown (money_site (sealed_contents survey.now)) request steps.now page.old text × Appends (W.Write.contents out.old) (W.Write.contents out.new) text) }
+    ensures { OnOk result (SomePrinted W.Write out.old out.new (Shown survey.now request steps.now (length page.old))) }
 {
     match sheet(survey, request, steps, page) {
         Ok(length) => print_text(out, &page[..length]),
-        Err(refusal) => print_refusal(out, refusal),
+        Err(refusal) => print_refusal(out, Refused::Call(refusal)),
     }
 }
 
-// Prints the sheet of the steps over a survey, which may have so many bytes, or why there is none. (The page is lent to `sheet`, which
-// takes no memory of its own: so the bytes are here, and how many of them were written is its answer.)
+/// Prints the sheet of the steps over a survey, or the line of why there is none.
+///
+/// A sheet may have `most` bytes, and memory for so many is taken.
 pub fn print_sheet<W: Write>(
-    heap: Global,
+    alloc: Global,
     out: &mut W,
     survey: &Sealed,
     request: Request,
     steps: &[Step],
     most: usize,
 ) -> anyhow::Result<()>
-    ensures { OnOk result ((text : List ℕ) × Shown (money_site (sealed_contents survey.now)) request steps.now (replicate most 0) text × Appends (W.Write.contents out.old) (W.Write.contents out.new) text) }
+    ensures { OnOk result (SomePrinted W.Write out.old out.new (Shown survey.now request steps.now most)) }
 {
-    let mut page = vec![in heap; 0u8; most]?;
+    let mut page = vec![in alloc; 0u8; most]?;
     print_page(out, survey, request, steps, &mut page)
 }
 
@@ -187,8 +193,8 @@ mod tests {
         Ok(())
     }
 
-    // There is memory for a survey: a file of one place is read and nothing printed, and one without bytes is refused and its fault
-    // printed.
+    // There is memory for a survey: a file of one place is read and nothing printed, and one without bytes is refused and
+    // its fault printed.
     #[test]
     fn a_survey_is_read(rt: HostRuntime) -> Result<(), Fail> {
         let file = [1, 0, 2, 0, 1, 2, 0, 0, 4, 0, 0];

@@ -6,6 +6,7 @@ pub mod disturbance;
 pub mod money;
 pub mod queue;
 pub mod refusal;
+pub mod rows;
 pub mod run;
 pub mod site;
 pub mod way;

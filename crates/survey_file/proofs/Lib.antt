@@ -5,3 +5,4 @@ pub mod ReadsBack
 pub mod OnlyFile
 pub mod Writing
 pub mod Pieces
+pub mod FileRefusals

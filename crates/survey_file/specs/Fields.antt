@@ -1,10 +1,15 @@
 -- Fields of a survey file: a tag in one byte, a length in two, and a body. Numbers have their high byte first.
 -- A fault's place counts the bytes before the field's tag. Stands on the refusals.
-use Rattle.std.specs.Prelude.{ℕ, ◌+◌, ◌-◌, ◌*◌, cond, List, length, Ok, Err, Result, ◌==◌, nat_lt, slice_index}
+use Rattle.std.specs.Prelude.{ℕ, ◌+◌, ◌-◌, ◌*◌, ◌≤◌, cond, List, length, Ok, Err, Result, ◌==◌, nat_lt, slice_index}
 use Rattle.subject.specs.declared.refusal.Refusal.{Refusal}
 use Rattle.subject.specs.declared.refusal.Refusal.TheVariants.{CutShort, WrongLength}
 use Rattle.subject.specs.declared.refusal.Fault.{Fault}
+use Rattle.subject.specs.Refusals.{number}
 use Rattle.survey_file.specs.declared.field.Head.{Head}
+
+-- a refusal that a file can be met with: they have the numbers 1 to 10
+abbrev pub IsFileRefusal : Refusal → Type 0
+IsFileRefusal r = number r ≤ 10
 
 -- a refusal, with the bytes before the field
 abbrev pub fault_of : Refusal → ℕ → Fault

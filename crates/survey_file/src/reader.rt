@@ -1,9 +1,10 @@
-ghost use Rattle.std.specs.Prelude.{◌≡◌, ◌<◌, ◌≤◌, length, IfOk, Ok, OnOk};
+ghost use Rattle.std.specs.Prelude.{◌≡◌, ◌<◌, ◌≤◌, length, IfOk, IfErr, Ok, OnOk};
 ghost use Rattle.survey.specs.Contents.{contents, no_contents};
 ghost use Rattle.survey.specs.Edits.{answer_of, contents_after};
 ghost use Rattle.survey_file.specs.Decode.{is_ended, turn_of, state_of, contents_of, state_behind, decode};
 ghost use Rattle.survey_file.specs.Encode.{file_of};
 ghost use Rattle.survey_file.specs.Entering.{entered_by};
+ghost use Rattle.survey_file.specs.Fields.{IsFileRefusal};
 ghost use Rattle.survey_file.specs.InField.{IsBehind};
 
 use crate::entry::Entry;
@@ -121,13 +122,14 @@ impl FileReader {
 
     /// Reads a whole file into a draft, in place of what was there.
     ///
-    /// A file that is refused leaves the draft as it was. The answer is then the refusal and its byte place;
-    /// docs/SURVEY-FILE.md has the checks in their order. A file that is accepted is the one that is written from what
+    /// A file that is refused leaves the draft as it was. The answer is then the refusal, which is one of the numbers 1
+    /// to 10, and its byte place; docs/SURVEY-FILE.md has the checks in their order. A file that is accepted is the one that is written from what
     /// it reads as.
     pub fn read(&mut self, bytes: &[u8], draft: &mut Draft) -> Result<(), Fault>
         ensures answer { result ≡ answer_of tt (decode bytes.now) }
         ensures after { contents draft.new ≡ contents_after (contents draft.old) (decode bytes.now) }
         ensures written { OnOk result (bytes.now ≡ file_of (contents draft.new)) }
+        ensures refusal { IfErr result (λ f. IsFileRefusal f.refusal) }
     {
         if let Err(fault) = fill(bytes, &mut self.spare) {
             self.spare.clear();

@@ -3,6 +3,7 @@ ghost use Rattle.tree_queue.specs.Rows.{blank_row};
 
 use std::alloc::{AllocError, Global};
 use subject::charge::Charge;
+use subject::rows::rows_of;
 
 /// One row of a queue: the row with number k holds the charge of cell k, the cell at position k, and the position
 /// of cell k.
@@ -30,9 +31,5 @@ impl<C: Charge> QueueRow<C> {
 pub fn blank_rows<C: Charge>(alloc: Global, count: usize) -> Result<Vec<QueueRow<C>>, AllocError>
     ensures { IfOk result (λ rows. rows.items ≡ replicate count (blank_row C.Charge.nothing)) }
 {
-    let mut rows = Vec::with_capacity(alloc, count)?;
-    for _ in 0..count {
-        rows.push(QueueRow::blank())?;
-    }
-    Ok(rows)
+    rows_of(alloc, QueueRow::blank(), count)
 }

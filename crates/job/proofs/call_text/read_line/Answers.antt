@@ -4,5 +4,5 @@ use Rattle.std.proofs.lemmas.Str.{IsUtf8-from_ascii}
 use Rattle.job.proofs.Splits.{call_ascii}
 use Rattle.job.proofs.call_text.read_line.Goals as goal
 
-pub returns-in_default : goal.returns-in_default
-returns-in_default c = λ k counted is. c.in_default.ensures.cases.0 (IsUtf8-from_ascii _ (subst IsAscii (sym is) (call_ascii k counted)))
+pub returns-in_default-clause-none : goal.returns-in_default-clause-none
+returns-in_default-clause-none c = λ k counted is. c.in_default.ensures.cases.0 (IsUtf8-from_ascii _ (subst IsAscii (sym is) (call_ascii k counted)))

@@ -1,5 +1,5 @@
 -- The job is new, so its book is the empty one.
-use Rattle.std.proofs.Common.{◌≡◌, ℕ, Bool, ap, ◌∙◌, subst}
+use Rattle.std.proofs.Common.{ℕ, Bool, subst}
 use Rattle.search.specs.Memories.{lent_memory}
 use Rattle.job.specs.Jobs.{closed_by, state_over}
 use Rattle.job.specs.Replay.{ReplayOutcome}

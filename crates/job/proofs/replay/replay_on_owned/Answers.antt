@@ -26,6 +26,8 @@ returns-clause-replayed g c =
     let many_steps : length replayed.new.run ≡ rows.run.len = replayed.auto.run ∙ ap length run ∙ sym rows.run.ok.0 in
     let h = ap (λ xs. before xs c.deref_mut-2.result.now) cells ∙ ap (before rows.cells.items) run in
     let h' = ap (λ xs. after xs replayed.new.run) (sym (with_items_is rows.cells replayed.new.cells many_cells))
-    ∙ ap (after _) (sym (with_items_is rows.run replayed.new.run many_steps)) in
-    (replayed.new.queue, subst (Says (before rows.cells.items rows.run.items)) h'
-      (subst (λ x. Says x (after replayed.new.cells replayed.new.run)) h replayed.ensures.replayed))
+    ∙ ap (after _) (sym (with_items_is rows.run replayed.new.run many_steps)) in (
+      replayed.new.queue,
+      subst (Says (before rows.cells.items rows.run.items)) h'
+          (subst (λ x. Says x (after replayed.new.cells replayed.new.run)) h replayed.ensures.replayed),
+    )

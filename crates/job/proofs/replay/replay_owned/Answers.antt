@@ -12,5 +12,5 @@ returns-clause-ok g c =
     let tried = c.replay_on_owned in
     let Says : g.row.S.Denot → (ℕ → Bool) → Type 0 = λ below book.
     OwnedReplay (state_over g.S.Site g.S.Charge.Charge below book) g.Q.PriorityQueue c.args.queue c.args.request
-      c.args.entries.now tried.new.entries c.args.rows.now tried.new.rows tried.result in
+    c.args.entries.now tried.new.entries c.args.rows.now tried.new.rows tried.result in
     subst (Says c.args.site) (fun_ext made.open) (subst (λ below. Says below (closed_by job)) made.below tried.ensures.replayed)

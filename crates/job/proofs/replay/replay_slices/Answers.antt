@@ -1,6 +1,6 @@
 -- After the listed calls the job has closed just what is in the book for them, so the plan made next is one over the site below with
 -- the ways of the book shut, and the law follows from the promise of a plan; no call changes how many rows there are.
-use Rattle.std.proofs.Common.{◌≡◌, ℕ, Bool, length, ap, ◌∙◌, subst}
+use Rattle.std.proofs.Common.{◌≡◌, ℕ, Bool, subst}
 use Rattle.planner.specs.Outcome.{PlanOutcome}
 use Rattle.search.specs.Memories.{LentMemory, counts_of}
 use Rattle.job.proofs.Lists.{law_holds, rows_after_calls, counts_same}
@@ -36,7 +36,7 @@ returns-clause-replayed g c =
     record {
       calls = tried.calls;
       law = law_holds (problem_on (state_after_all J calls) request) q before h' (counts_of q h) c.plan_slices.result
-        (counts_same q h before c.try_all.auto.cells (rows_after_calls q J h before c.try_all.new.entries tried.listed) c.try_all.auto.run) next;
+          (counts_same q h before c.try_all.auto.cells (rows_after_calls q J h before c.try_all.new.entries tried.listed) c.try_all.auto.run) next;
       before = before;
       listed = tried.listed;
       next = next;

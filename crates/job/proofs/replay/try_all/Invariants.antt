@@ -12,7 +12,7 @@ invariant-loop-entry g l = record {
   below : site_below l.job ≡ site_below l.initial.job;
   book : closed_by l.job ≡ after_calls (way_count g.S.Site l.initial.job) (closed_by l.initial.job) (calls_of (take l.entry-index l.entries));
   listed : CallsOutcome (state_of g.S.Site g.S.Charge.Charge l.initial.job) g.Q.PriorityQueue
-    (record { cells = l.initial.cells; queue = l.initial.queue; run = l.initial.run })
-    (record { cells = l.cells; queue = l.queue; run = l.run }) (take l.entry-index l.entries);
+      (record { cells = l.initial.cells; queue = l.initial.queue; run = l.initial.run })
+      (record { cells = l.cells; queue = l.queue; run = l.run }) (take l.entry-index l.entries);
   lenders : g.Q.PriorityQueue.lenders l.queue ≡ g.Q.PriorityQueue.lenders l.initial.queue;
 }

@@ -1,10 +1,10 @@
 -- The line says the four numbers, and then the mark.
-use Rattle.std.proofs.Common.{◌^◌, ◌<◌, ◌≤◌, Bool, true, false, [], ◌++◌, length, ap, ◌∙◌, arith, rules}
-use Rattle.std.proofs.lemmas.List.{append_assoc, length-append}
-use Rattle.sheet.specs.Lines.{text_of, pushed}
+use Rattle.std.proofs.Common.{◌≤◌, Bool, true, false, [], ◌++◌, length, ap, ◌∙◌, arith, rules}
+use Rattle.std.proofs.lemmas.List.{append_assoc}
+use Rattle.sheet.specs.Lines.{text_and}
 use Rattle.sheet.specs.Refused.{number_then}
 use Rattle.sheet.specs.Sheet.{mark_end}
-use Rattle.sheet.proofs.Growing.{says_more, says_number_then, number_then_long}
+use Rattle.sheet.proofs.Growing.{said-none, said-piece, said-number_then}
 use Rattle.sheet.proofs.lines.step_line.Goals as goal
 
 mark_long : (mark : Bool) → length (mark_end mark) ≤ 2
@@ -19,21 +19,12 @@ returns c =
     let d = number_then x.to 32 in
     let e = number_then x.loss 32 in
     let f = mark_end x.mark in
-    let way-small : x.way < 2 ^ 64 = search rules in
-    let from-small : x.from < 2 ^ 64 = search rules in
-    let to-small : x.to < 2 ^ 64 = search rules in
-    let loss_small : x.loss < 2 ^ 64 = search rules in
-    let one = says_number_then _ (text_of c.push_number_then.new.self) [] x.way 32 way-small c.new-line.ensures c.push_number_then.ensures (omega arith) in
-    let long-a = number_then_long x.way 32 way-small in
-    let two = says_number_then _ (text_of c.push_number_then-2.new.self) a x.from 32 from-small one c.push_number_then-2.ensures (omega arith) in
-    let long-b = number_then_long x.from 32 from-small in
-    let long-ab = length-append a b in
-    let three = says_number_then _ (text_of c.push_number_then-3.new.self) (a ++ b) x.to 32 to-small two c.push_number_then-3.ensures (omega arith) in
-    let long-d = number_then_long x.to 32 to-small in
-    let long-abd = length-append (a ++ b) d in
-    let four = says_number_then _ (text_of c.push_number_then-4.new.self) ((a ++ b) ++ d) x.loss 32 loss_small three c.push_number_then-4.ensures (omega arith) in
-    let long-e = number_then_long x.loss 32 loss_small in
-    let long-abde = length-append ((a ++ b) ++ d) e in
-    let long-f = mark_long x.mark in
-    let all = says_more _ (text_of c.push.new.self) (((a ++ b) ++ d) ++ e) f four (c.push.ensures ∙ ap (pushed (text_of c.push_number_then-4.new.self)) c.mark_end.ensures) (omega arith) in
-    all ∙ append_assoc ((a ++ b) ++ d) e f ∙ append_assoc (a ++ b) d (e ++ f) ∙ append_assoc a b (d ++ (e ++ f))
+    let none = said-none _ c.new-line.ensures in
+    let one = said-number_then _ _ [] _ none x.way 32 (search rules) c.push_number_then.ensures (omega arith) in
+    let two = said-number_then _ _ a _ one x.from 32 (search rules) c.push_number_then-2.ensures (omega arith) in
+    let three = said-number_then _ _ (a ++ b) _ two x.to 32 (search rules) c.push_number_then-3.ensures (omega arith) in
+    let four =
+    said-number_then _ _ ((a ++ b) ++ d) _ three x.loss 32 (search rules) c.push_number_then-4.ensures (omega arith) in
+    let mark = c.push.ensures ∙ ap (text_and _) c.mark_end.ensures in
+    let all = said-piece _ _ (((a ++ b) ++ d) ++ e) _ four f 2 mark (mark_long x.mark) (omega arith) in
+    all.is ∙ append_assoc ((a ++ b) ++ d) e f ∙ append_assoc (a ++ b) d (e ++ f) ∙ append_assoc a b (d ++ (e ++ f))

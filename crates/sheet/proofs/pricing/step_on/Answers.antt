@@ -2,8 +2,8 @@
 use Rattle.std.proofs.Common.{refl, rules}
 use Rattle.sheet.proofs.pricing.step_on.Goals as goal
 
-pub returns : goal.returns
-returns g c = record {
+pub returns-clause-some : goal.returns-clause-some
+returns-clause-some g c = record {
   over = c.in_ok-way.way;
   goes = record { opens = search rules; leaves = search rules; arrives = search rules; marks = search rules };
   place = refl;

@@ -1,12 +1,10 @@
--- As many bytes came as stand at the front of the buffer, at least one at each turn: so after the last turn it is full.
-use Rattle.std.proofs.Common.{◌≡◌, ◌≤◌, length, take}
-use Rattle.std.specs.Io.KnownBytes.{Consumes}
+-- What came so far is at the front of the buffer; each turn but the last reads a byte at least.
+use Rattle.std.proofs.Common.{◌-◌, length}
+use Rattle.sheet.specs.Filling.{Filled}
 use Rattle.sheet.proofs.print.fill.Given as goal
 
-abbrev pub invariant-loop : goal.invariant-loop
-invariant-loop g l = record {
-  same_length : length l.buffer ≡ length l.initial.buffer;
-  within : l.at ≤ length l.buffer;
-  turns : l.counter ≤ l.at;
-  given : Consumes (g.R.Read.remaining l.initial.source) (g.R.Read.remaining l.source) (take l.at l.buffer);
-}
+abbrev pub invariant-loop-at : goal.invariant-loop-at
+invariant-loop-at g l = Filled g.R.Read l.initial.source l.source l.initial.buffer l.buffer l.at
+
+abbrev pub decreases-loop-at : goal.decreases-loop-at
+decreases-loop-at g l = length l.buffer - l.at

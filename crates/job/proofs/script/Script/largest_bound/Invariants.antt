@@ -5,11 +5,12 @@ use Rattle.std.specs.List.{AllWithin}
 use Rattle.job.specs.declared.list.Call.TheVariants.{Plan}
 use Rattle.job.specs.Replay.{calls_of}
 use Rattle.job.specs.Covering.{Covers, largest}
+use Rattle.subject.specs.declared.run.TheConstants.{MOST_BOUND}
 use Rattle.job.proofs.script.Script.largest_bound.Given as goal
 
 abbrev pub invariant-loop-entry : goal.invariant-loop-entry
 invariant-loop-entry l =
-    (l.bound ≤ 1000)
+    (l.bound ≤ MOST_BOUND)
     × Covers l.bound (Plan l.self.last)
     × AllWithin (λ e. Covers l.bound e.call) (vec_items l.self.entries) 0 l.entry-index
     × (largest l.bound (calls_of (drop l.entry-index (vec_items l.self.entries))) ≡ largest 0 (Plan l.self.last ∷ calls_of (vec_items l.self.entries)))

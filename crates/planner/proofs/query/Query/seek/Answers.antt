@@ -4,9 +4,7 @@ use Rattle.std.proofs.Common.{◌≡◌, ℕ, true, false, is_some, refl, ap, ar
 use Rattle.search.proofs.Covers.{no_run}
 use Rattle.search.proofs.Turns.{taken_inside, taken_reached, taken_short, taken_found, settle_turn, settle_count}
 use Rattle.planner.proofs.Kept.{one_more, ready_kept}
-use Rattle.search.specs.Cells.{cell_count}
 use lib.ListN.{length-map}
-use Rattle.planner.proofs.query.Query.seek.Given as given
 use Rattle.planner.proofs.query.Query.seek.Goals as goal
 
 not_true : false ≡ true → ⊥

@@ -1,6 +1,6 @@
 -- After clearing, indexing and one put, the start's cell alone waits, with nothing: the state in which a search begins.
 use Rattle.std.proofs.Common.{◌≡◌, ℕ, ◌+◌, ◌*◌, ◌<◌, min, List, None, length, replicate, set, sym, refl, ap, ◌∙◌, subst, arith}
-use Rattle.search.proofs.Tables.{room_kept, indexed_kept, blank_cells, blank_heads, same_lenders}
+use Rattle.search.proofs.Tables.{room_kept, indexed_kept, blank_cells, blank_heads}
 use Rattle.planner.specs.Workspaces.{problem}
 use Rattle.subject.specs.Queues.{IsPut}
 use Rattle.search.specs.declared.cell.Cell.{Cell}
@@ -9,10 +9,8 @@ use Rattle.search.specs.declared.cell.Reached.{Reached}
 use Rattle.search.specs.Columns.{cells_of, blank_row}
 use Rattle.search.proofs.Trails.{cell_place, cell_loss}
 use Rattle.search.proofs.Turns.{start_books, start_search}
-use Rattle.search.specs.Cells.{cell_count}
 use lib.Arith.{digits_lt}
 use lib.ListN.{length-map}
-use Rattle.planner.proofs.query.Query.start.Given as given
 use Rattle.planner.proofs.query.Query.start.Goals as goal
 
 pub returns : goal.returns

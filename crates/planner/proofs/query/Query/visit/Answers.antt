@@ -6,7 +6,6 @@ use Rattle.search.specs.Columns.{cells_of}
 use Rattle.search.proofs.Covers.{skipped}
 use Rattle.search.proofs.Trails.{place_below}
 use Rattle.planner.proofs.Kept.{still_untouched}
-use Rattle.planner.proofs.query.Query.visit.Given as given
 use Rattle.planner.proofs.query.Query.visit.Goals as goal
 
 pub set_hint-requires : goal.set_hint-requires

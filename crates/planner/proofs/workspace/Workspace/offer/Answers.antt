@@ -3,7 +3,6 @@ use Rattle.std.proofs.Common.{◌<◌, length, sym, arith}
 use Rattle.search.specs.Columns.{cells_of}
 use Rattle.search.proofs.Tables.{offered_over, offered_none, nth_column}
 use lib.ListN.{length-map}
-use Rattle.planner.proofs.workspace.Workspace.offer.Given as given
 use Rattle.planner.proofs.workspace.Workspace.offer.Goals as goal
 
 pub returns-then-is_better-clause-offered : goal.returns-then-is_better-clause-offered

@@ -1,0 +1,14 @@
+pub mod FieldFacts
+pub mod LineBack
+pub mod LineFacts
+pub mod ListFacts
+pub mod NameFacts
+pub mod RowFacts
+pub mod WalkFacts
+pub mod WriteFacts
+pub mod NumberBack
+pub mod NamesBack
+pub mod RowsBack
+pub mod RoundTrip
+pub mod NumbersLawful
+pub mod LawfulBack

@@ -1,0 +1,84 @@
+// Reading a text.
+ghost use Rattle.std.specs.Prelude.{◌≡◌, map, IfOk};
+ghost use Rattle.csv.specs.Reading.{default_config, records, strip_bom};
+ghost use Rattle.csv.specs.Records.{fields_of};
+
+use crate::field::check_row;
+use crate::row::{is_heading, says_nothing};
+use crate::text::SurveyText;
+use crate::trouble::Cause;
+use csv::{ByteRecord, ReaderBuilder};
+use std::alloc::{AllocError, Global};
+
+// A survey that is being read, and whether a row has said something.
+#[derive(Drop)]
+pub(crate) struct Reading {
+    pub survey: SurveyText,
+    pub is_begun: bool,
+}
+
+// Behind the byte-order mark of a text, if it has one.
+pub(crate) fn without_mark(text: &[u8]) -> &[u8]
+    ensures { result.now ≡ strip_bom text.now }
+{
+    match text {
+        [first, second, third, rest @ ..] if *first == 0xEF && *second == 0xBB && *third == 0xBF =>
+            rest,
+        _ => text,
+    }
+}
+
+// The rows of a text: its records as CSV, of any lengths.
+pub(crate) fn rows_of(alloc: Global, text: &[u8]) -> Result<Vec<ByteRecord>, AllocError>
+    ensures { IfOk result (λ rows. map fields_of rows.items ≡ records default_config (strip_bom text.now)) }
+{
+    let reader = ReaderBuilder::new()
+        .has_headers(false)
+        .flexible(true)
+        .from_reader(alloc, text);
+    let mut rows = Vec::new(alloc);
+    for row in reader.into_byte_records() {
+        match row {
+            Ok(row) => rows.push(row)?,
+            Err(_) => return Err(AllocError),
+        }
+    }
+    Ok(rows)
+}
+
+impl Reading {
+    ghost use Rattle.survey_text.specs.Texts.{reading, nothing_read, turn_of, Does};
+
+    // Nothing is read.
+    pub(crate) fn new(alloc: Global) -> Result<Reading, AllocError>
+        ensures { IfOk result (λ r. reading r ≡ nothing_read) }
+    {
+        let survey = SurveyText::new(alloc)?;
+        Ok(Reading {
+            survey,
+            is_begun: false,
+        })
+    }
+
+    // One row.
+    pub(crate) fn turn(
+        &mut self,
+        alloc: Global,
+        row: &ByteRecord,
+    ) -> Result<Result<(), Cause>, AllocError>
+        ensures { IfOk result (λ r. Does (turn_of (reading self.old) (fields_of row.now)) r (reading self.new)) }
+    {
+        if let Err(cause) = check_row(row) {
+            return Ok(Err(cause));
+        }
+        if says_nothing(row) {
+            return Ok(Ok(()));
+        }
+        let heads = !self.is_begun && is_heading(row);
+        self.is_begun = true;
+        if heads {
+            return Ok(Ok(()));
+        }
+        self.survey.enter(alloc, row)
+    }
+}
