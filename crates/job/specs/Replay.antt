@@ -1,27 +1,35 @@
 -- What trying a list of calls on a job does, and what a plan made next on that job answers. Stands on runs, on the promise of a
 -- plan, and on the closing book.
-use Rattle.std.specs.Prelude.{◌≡◌, List, [], ◌∷◌, map, take, Result, MatchResult}
+use Rattle.std.specs.Prelude.{◌≡◌, ℕ, Bool, List, [], ◌∷◌, map, take, Result, MatchResult}
 use Rattle.subject.specs.declared.queue.PriorityQueue.{Ghosts as QueueGhosts}
 use Rattle.subject.specs.declared.refusal.Refusal.{Refusal}
 use Rattle.subject.specs.declared.refusal.Refusal.TheVariants.{NoRun}
 use Rattle.subject.specs.declared.run.Request.{Request}
+use Rattle.subject.specs.declared.site.Site.{Ghosts as SiteGhosts}
 use Rattle.subject.specs.declared.run.Step.{Step}
 use Rattle.subject.specs.Problems.{Problem}
 use Rattle.subject.specs.Runs.{IsLeast, NoLawfulRun}
 use Rattle.search.specs.declared.check.RowCounts.{RowCounts}
 use Rattle.search.specs.Memories.{LentMemory, counts_of}
+use Rattle.search.specs.Owned.{owned_memory}
+use Rattle.search.specs.declared.owned.OwnedRows.{OwnedRows}
 use Rattle.planner.specs.declared.plan.Planned.{Planned}
 use Rattle.planner.specs.Outcome.{PlanOutcome, PlanPasses, PlanCause}
+use Rattle.job.specs.declared.job.Job.{Job}
 use Rattle.job.specs.declared.list.Call.{Call}
 use Rattle.job.specs.declared.list.Call.TheVariants.{Close, Reopen, Plan}
 use Rattle.job.specs.declared.list.Answer.{Answer}
 use Rattle.job.specs.declared.list.Entry.{Entry}
 use Rattle.job.specs.Book.{closing, reopening, after_call, after_calls}
 use Rattle.job.specs.Gives.{of_change, of_plan}
-use Rattle.job.specs.Jobs.{JobState, problem_on, with_book}
+use Rattle.job.specs.Jobs.{JobState, problem_on, with_book, way_count, closed_by}
 
 abbrev pub calls_of : {C : Type 0} → List (Entry C) → List Call
 calls_of entries = map (λ e. e.call) entries
+
+-- the closing book of a job after the listed calls
+abbrev pub book_after : {S C : Type 0} → SiteGhosts S C → Job S → List (Entry C) → ℕ → Bool
+book_after s j entries = after_calls (way_count s j) (closed_by j) (calls_of entries)
 
 -- the job after one call, and after a list of calls, one by one
 abbrev pub state_after : {C : Type 0} → JobState C → Call → JobState C
@@ -61,6 +69,13 @@ pub record ReplayOutcome {C Q : Type 0} (J : JobState C) (q : QueueGhosts Q C) (
   pub before : LentMemory C Q
   pub listed : CallsOutcome J q h before entries'
   pub next : PlanOutcome (problem_on (state_after_all J (calls_of entries)) request) q before h' r
+
+-- the same over cell rows and run rows that a program owns, with a queue that is handed in and used up: with some queue that it
+-- comes to
+abbrev pub OwnedReplay : {C Q : Type 0} → JobState C → QueueGhosts Q C → Q → Request → List (Entry C) → List (Entry C)
+    → OwnedRows C → OwnedRows C → Result (Planned C) Refusal → Type 0
+OwnedReplay {C} {Q} J q queue request entries entries' rows rows' r =
+    (queue' : Q) × ReplayOutcome J q request entries entries' (owned_memory rows queue) (owned_memory rows' queue') r
 
 -- a job could not be set up for want of memory: nothing was tried, and all is as it was
 pub record IsUntouched {C Q : Type 0} (entries entries' : List (Entry C)) (h h' : LentMemory C Q) : Type 0 where

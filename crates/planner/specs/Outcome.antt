@@ -10,6 +10,7 @@ use Rattle.subject.specs.Runs.{IsLeast, NoneTwice, NoLawfulRun}
 use Rattle.search.specs.declared.check.RowCounts.{RowCounts}
 use Rattle.search.specs.Checks.{ChecksPass, FirstCause}
 use Rattle.search.specs.Memories.{LentMemory, counts_of}
+use Rattle.search.specs.Owned.{owned_memory}
 use Rattle.search.specs.declared.owned.OwnedRows.{OwnedRows}
 use Rattle.planner.specs.declared.plan.Planned.{Planned}
 
@@ -46,6 +47,4 @@ pub record PlanOutcome {C Q : Type 0} (P : Problem C) (q : QueueGhosts Q C) (h h
 -- comes to
 abbrev pub OwnedOutcome : {C Q : Type 0} → Problem C → QueueGhosts Q C → Q → OwnedRows C → OwnedRows C → Result (Planned C) Refusal → Type 0
 OwnedOutcome {C} {Q} P q queue rows rows' r =
-    (queue' : Q) × PlanOutcome P q
-    (record { cells = rows.cells.items; queue = queue; run = rows.run.items })
-    (record { cells = rows'.cells.items; queue = queue'; run = rows'.run.items }) r
+    (queue' : Q) × PlanOutcome P q (owned_memory rows queue) (owned_memory rows' queue') r

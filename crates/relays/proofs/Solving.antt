@@ -24,16 +24,19 @@ use Rattle.survey.specs.SiteBounds.{sealed_bounded}
 use Rattle.search.specs.declared.check.RowCounts.{RowCounts}
 use Rattle.search.specs.Checks.{BoundInRange, FirstCause}
 use Rattle.search.specs.Memories.{LentMemory, counts_of}
+use Rattle.search.specs.Owned.{owned_memory}
+use Rattle.search.specs.declared.owned.OwnedRows.{OwnedRows}
 use Rattle.search.proofs.Stopping.{cause_other}
 use Rattle.planner.specs.declared.plan.Planned.{Planned}
 use Rattle.planner.specs.Outcome.{PlanOutcome}
 use Rattle.job.specs.declared.list.Entry.{Entry}
+use Rattle.job.specs.Book.{empty_book}
 use Rattle.job.specs.Bounds.{shutting_bounded}
-use Rattle.job.specs.Replay.{PlanLaw, ReplayOutcome}
+use Rattle.job.specs.Replay.{PlanLaw, OwnedReplay, ReplayOutcome}
 use Rattle.job.proofs.Lists.{law_holds}
 use Rattle.relays.specs.Problem.{RelayProblem, all_open, value}
 use Rattle.relays.specs.Answers.{IsSolution, IsAnswer}
-use Rattle.relays.specs.MoneyJobs.{money_job, problem_after}
+use Rattle.relays.specs.MoneyJobs.{money_job, problem_after, new_job_problem}
 use Rattle.relays.proofs.Lawful.{lawful_feasible, feasible_lawful, money_asked}
 use Rattle.relays.proofs.Totals.{capped, total_capped}
 use Rattle.relays.proofs.Few.{few_steps}
@@ -122,11 +125,19 @@ replay_answers s book q queue es es' h h' r shown same o =
     let here = subst (λ c. ReplayOutcome (money_job c book) queue q es es' h h' r) same o in
     law_answers s _ q queue (counts_of queue h) here.before h' r here.law here.next
 
--- the same where a job could be set up
-pub replay_answers_ok : {Q E : Type 0} (s : Sealed) (book : ℕ → Bool) (q : Request) (queue : QueueGhosts Q Money)
-    (es es' : List (Entry Money)) (h h' : LentMemory Money Q) (r : Result (Result (Planned Money) Refusal) E) (shown : Contents)
-    → shown ≡ sealed_contents s → IfOk r (λ planned. ReplayOutcome (money_job shown book) queue q es es' h h' planned)
-    → IfOk r (λ planned. IsAnswer (problem_after (sealed_contents s) book es q) (counts_of queue h) h'.run planned)
-replay_answers_ok s book q queue es es' h h' r shown same o =
-    IfOk-weaker r (λ planned. ReplayOutcome (money_job shown book) queue q es es' h h' planned) _
-    (λ planned p. replay_answers s book q queue es es' h h' planned shown same p) o
+-- the same of a new job, where one could be set up: over rows that are lent, and over rows that a program owns
+module _ {Q E : Type 0} (s : Sealed) (q : Request) (queue : QueueGhosts Q Money) (es es' : List (Entry Money))
+    (r : Result (Result (Planned Money) Refusal) E) (shown : Contents) (same : shown ≡ sealed_contents s) where
+  pub lent_answers : (h h' : LentMemory Money Q)
+      → IfOk r (λ planned. ReplayOutcome (money_job shown empty_book) queue q es es' h h' planned)
+      → IfOk r (λ planned. IsAnswer (new_job_problem s es q) (counts_of queue h) h'.run planned)
+  lent_answers h h' o =
+      IfOk-weaker r (λ planned. ReplayOutcome (money_job shown empty_book) queue q es es' h h' planned) _
+      (λ planned p. replay_answers s empty_book q queue es es' h h' planned shown same p) o
+
+  pub owned_answers : (slots : Q) (rows rows' : OwnedRows Money)
+      → IfOk r (λ planned. OwnedReplay (money_job shown empty_book) queue slots q es es' rows rows' planned)
+      → IfOk r (λ planned. IsAnswer (new_job_problem s es q) (counts_of queue (owned_memory rows slots)) rows'.run.items planned)
+  owned_answers slots rows rows' o =
+      IfOk-weaker r (λ planned. OwnedReplay (money_job shown empty_book) queue slots q es es' rows rows' planned) _
+      (λ planned p. replay_answers s empty_book q queue es es' (owned_memory rows slots) (owned_memory rows' p.0) planned shown same p.1) o

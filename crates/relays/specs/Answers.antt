@@ -3,13 +3,11 @@
 use Rattle.std.specs.Prelude.{◌≡◌, ◌+◌, ◌*◌, ◌<◌, ◌≤◌, List, length, take, Result, MatchResult}
 use Rattle.subject.specs.declared.money.TheConstants.{CEILING}
 use Rattle.subject.specs.declared.money.Money.{Money}
-use Rattle.subject.specs.declared.queue.PriorityQueue.{Ghosts as QueueGhosts}
 use Rattle.subject.specs.declared.refusal.Refusal.{Refusal}
 use Rattle.subject.specs.declared.refusal.Refusal.TheVariants.{NoRun}
 use Rattle.subject.specs.declared.run.Step.{Step}
 use Rattle.subject.specs.Moneys.{of_cents}
 use Rattle.search.specs.declared.check.RowCounts.{RowCounts}
-use Rattle.search.specs.declared.owned.OwnedRows.{OwnedRows}
 use Rattle.search.specs.Checks.{ChecksPass}
 use Rattle.planner.specs.declared.plan.Planned.{Planned}
 use Rattle.relays.specs.Problem.{RelayProblem, IsOptimal, NoneFeasible, value}
@@ -31,11 +29,3 @@ pub record IsRefused (R : RelayProblem) (counts : RowCounts) (e : Refusal) : Typ
 abbrev pub IsAnswer : RelayProblem → RowCounts → List Step → Result (Planned Money) Refusal → Type 0
 IsAnswer R counts run' r =
     MatchResult r (λ p. IsSolution R (take p.steps run') p.total) (λ e. IsRefused R counts e)
-
--- how many rows there are of each sort, where a program owns the cell rows and the run rows
-abbrev pub owned_counts : {C Q : Type 0} → QueueGhosts Q C → Q → OwnedRows C → RowCounts
-owned_counts q queue rows = record {
-  cells = length rows.cells.items;
-  queue = q.rows queue;
-  run = length rows.run.items;
-}

@@ -1,6 +1,7 @@
--- What owned rows hold. Stands on the structs of the rows.
+-- What owned rows hold, and what they come to when they are lent with a queue. Stands on the structs of the rows.
 use Rattle.std.specs.Prelude.{◌≡◌, ℕ, false, replicate}
 use Rattle.search.specs.Columns.{blank_row}
+use Rattle.search.specs.Memories.{LentMemory}
 use Rattle.search.specs.declared.owned.Filling.{Filling}
 use Rattle.search.specs.declared.owned.OwnedRows.{OwnedRows}
 
@@ -12,3 +13,7 @@ pub record Holds {C : Type 0} (count : ℕ) (filling : Filling C) (rows : OwnedR
 -- rows that tell nothing
 abbrev pub blank_filling : {C : Type 0} → Filling C
 blank_filling = record { cell = blank_row; step = record { way = 0; mark = false } }
+
+-- cell rows and run rows that a program owns, lent with a queue
+abbrev pub owned_memory : {C Q : Type 0} → OwnedRows C → Q → LentMemory C Q
+owned_memory rows queue = record { cells = rows.cells.items; queue = queue; run = rows.run.items }

@@ -1,7 +1,7 @@
 -- Each turn tries one more call on the job as the calls before it left it; after the last all have been tried.
 use Rattle.std.proofs.Common.{◌≡◌, ℕ, get_or, ◌∙◌, subst, arith}
-use Rattle.search.proofs.Tables.{nth_column, same_lenders}
-use Rattle.search.specs.Memories.{lent_memory}
+use Rattle.search.proofs.Tables.{nth_column}
+use Rattle.search.specs.Memories.{LentMemory}
 use Rattle.job.proofs.Lists.{tried_next, set_same}
 use Rattle.job.specs.Book.{after_call}
 use Rattle.job.specs.Jobs.{closed_by, state_of, state_over}
@@ -20,9 +20,10 @@ loop-entry-preserved g c =
     let at = c.loop-entry.entry-index in
     let es = c.loop-entry.entries in
     let new : Entry g.row.S-Charge.Denot = record { call = (get_or es at c.entry-item.result).call; answer = c.attempt-entry.result } in
-    let h = lent_memory c.args.memory.now in
-    let mid = lent_memory c.loop-entry.memory in
-    let h' = lent_memory c.attempt-entry.new.memory in
+    let h : LentMemory g.row.S-Charge.Denot g.row.Q.Denot = record { cells = c.args.cells.now; queue = c.args.queue.now; run = c.args.run.now } in
+    let mid : LentMemory g.row.S-Charge.Denot g.row.Q.Denot = record { cells = c.loop-entry.cells; queue = c.loop-entry.queue; run = c.loop-entry.run } in
+    let after = c.attempt-entry.new in
+    let h' : LentMemory g.row.S-Charge.Denot g.row.Q.Denot = record { cells = after.cells; queue = after.queue; run = after.run } in
     let closed = closed_by c.loop-entry.job in
     let tried = subst (λ (z : g.row.S.Denot). CallOutcome (state_over s charge z closed) q mid h' new.call new.answer) inv.below c.attempt-entry.ensures.outcome in
     let marks = subst (λ (z : g.row.S.Denot). (n : ℕ) → closed_by c.attempt-entry.new.job n ≡ after_call (s.meaning z).ways closed new.call n) inv.below c.attempt-entry.ensures.book in
@@ -33,5 +34,5 @@ loop-entry-preserved g c =
       below = c.attempt-entry.ensures.below ∙ inv.below;
       book = next.0;
       listed = next.1;
-      same = same_lenders inv.same c.attempt-entry.ensures.same;
+      lenders = c.attempt-entry.ensures.lenders ∙ inv.lenders;
     }

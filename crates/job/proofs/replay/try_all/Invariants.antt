@@ -1,7 +1,6 @@
 -- The calls are as they were; the job is over the same site and has closed what is in the book for the calls tried so far; and those
 -- have been tried.
 use Rattle.std.proofs.Common.{◌≡◌, take}
-use Rattle.search.specs.Memories.{lent_memory, SameLenders}
 use Rattle.job.specs.Book.{after_calls}
 use Rattle.job.specs.Jobs.{site_below, closed_by, way_count, state_of}
 use Rattle.job.specs.Replay.{calls_of, CallsOutcome}
@@ -13,6 +12,7 @@ invariant-loop-entry g l = record {
   below : site_below l.job ≡ site_below l.initial.job;
   book : closed_by l.job ≡ after_calls (way_count g.S.Site l.initial.job) (closed_by l.initial.job) (calls_of (take l.entry-index l.entries));
   listed : CallsOutcome (state_of g.S.Site g.S.Charge.Charge l.initial.job) g.Q.PriorityQueue
-      (lent_memory l.initial.memory) (lent_memory l.memory) (take l.entry-index l.entries);
-  same : SameLenders g.Q.PriorityQueue l.initial.memory l.memory;
+      (record { cells = l.initial.cells; queue = l.initial.queue; run = l.initial.run })
+      (record { cells = l.cells; queue = l.queue; run = l.run }) (take l.entry-index l.entries);
+  lenders : g.Q.PriorityQueue.lenders l.queue ≡ g.Q.PriorityQueue.lenders l.initial.queue;
 }

@@ -2,13 +2,13 @@
 -- the ways of the book shut, and the law follows from the promise of a plan; no call changes how many rows there are.
 use Rattle.std.proofs.Common.{◌≡◌, ℕ, Bool, subst}
 use Rattle.planner.specs.Outcome.{PlanOutcome}
-use Rattle.search.specs.Memories.{lent_memory, counts_of}
+use Rattle.search.specs.Memories.{LentMemory, counts_of}
 use Rattle.job.proofs.Lists.{law_holds, rows_after_calls, counts_same}
 use Rattle.job.specs.Book.{after_calls}
 use Rattle.job.specs.Jobs.{closed_by, state_of, state_over, problem_on, with_book, way_count}
 use Rattle.job.specs.Replay.{calls_of, state_after_all}
 use mathlib.Core.Path.{fun_ext}
-use Rattle.job.proofs.replay.replay_on.Goals as goal
+use Rattle.job.proofs.replay.replay_slices.Goals as goal
 
 pub returns-clause-replayed : goal.returns-clause-replayed
 returns-clause-replayed g c =
@@ -21,17 +21,22 @@ returns-clause-replayed g c =
     let work = c.try_all.new.job in
     let calls = calls_of c.args.entries.now in
     let book = after_calls (way_count s c.args.job.now) (closed_by c.args.job.now) calls in
-    let h = lent_memory c.args.memory.now in
-    let before = lent_memory c.try_all.new.memory in
-    let h' = lent_memory c.plan.new.memory in
+    let h : LentMemory g.row.S-Charge.Denot g.row.Q.Denot =
+    record { cells = c.args.cells.now; queue = c.args.queue.now; run = c.args.run.now } in
+    let left = c.try_all.new in
+    let before : LentMemory g.row.S-Charge.Denot g.row.Q.Denot =
+    record { cells = left.cells; queue = left.queue; run = left.run } in
+    let planned = c.plan_slices.new in
+    let h' : LentMemory g.row.S-Charge.Denot g.row.Q.Denot =
+    record { cells = planned.cells; queue = planned.queue; run = planned.run } in
     let closed : closed_by work ≡ book = fun_ext tried.book in
-    let next : PlanOutcome (problem_on (state_after_all J calls) request) q before h' c.plan.result =
-    subst (λ (b : ℕ → Bool). PlanOutcome (problem_on (with_book J b) request) q before h' c.plan.result) closed
-    (subst (λ (z : g.row.S.Denot). PlanOutcome (problem_on (state_over s charge z (closed_by work)) request) q before h' c.plan.result) tried.below c.plan.ensures.outcome) in
+    let next : PlanOutcome (problem_on (state_after_all J calls) request) q before h' c.plan_slices.result =
+    subst (λ (b : ℕ → Bool). PlanOutcome (problem_on (with_book J b) request) q before h' c.plan_slices.result) closed
+    (subst (λ (z : g.row.S.Denot). PlanOutcome (problem_on (state_over s charge z (closed_by work)) request) q before h' c.plan_slices.result) tried.below c.plan_slices.ensures.outcome) in
     record {
       calls = tried.calls;
-      law = law_holds (problem_on (state_after_all J calls) request) q before h' (counts_of q h) c.plan.result
-          (counts_same q h before tried.same.cell_count (rows_after_calls q J h before c.try_all.new.entries tried.listed) tried.same.step_count) next;
+      law = law_holds (problem_on (state_after_all J calls) request) q before h' (counts_of q h) c.plan_slices.result
+          (counts_same q h before c.try_all.auto.cells (rows_after_calls q J h before c.try_all.new.entries tried.listed) c.try_all.auto.run) next;
       before = before;
       listed = tried.listed;
       next = next;
