@@ -1,6 +1,7 @@
--- Over the site of a survey for money with some ways shut a run is lawful just if it is feasible: the loss on each arrival is the sum of the losses
--- of the stretch so far, so it keeps within the bound on every arrival just if the whole stretch does. By induction over the
--- steps from the front, for any place and any loss so far.
+-- Over the site of a survey for money with some ways shut a run is lawful just if it is feasible: the loss on
+-- each arrival is the sum of the losses of the stretch so far, so it keeps within the bound on every arrival
+-- just if the whole stretch does. By induction over the steps from the front, for any place and any loss so
+-- far.
 use Rattle.std.proofs.Common.{◌≡◌, ℕ, ◌+◌, ◌≤◌, Bool, true, false, cond, List, [], ◌∷◌, Some, None, sum, Option, sym, refl, ap, ◌∙◌, subst, arith}
 use Rattle.std.specs.List.{slice_get, AllByRecursion as All}
 use Rattle.std.proofs.lemmas.List.Sums.{sum_by-cons}
@@ -38,12 +39,14 @@ within_all bound (x ∷ xs) h = (let first = h.0 in omega arith, h.1)
 abbrev cut : Bool → ℕ → List (List ℕ) → List (List ℕ)
 cut mark a ls = cond mark ((a ∷ []) ∷ ls) (extended a ls)
 
-within_step : (bound l a : ℕ) (mark : Bool) (ls : List (List ℕ)) → l + a ≤ bound → FirstWithin bound (loss_after mark (l + a)) ls → FirstWithin bound l (cut mark a ls)
+within_step : (bound l a : ℕ) (mark : Bool) (ls : List (List ℕ)) → l + a ≤ bound
+    → FirstWithin bound (loss_after mark (l + a)) ls → FirstWithin bound l (cut mark a ls)
 within_step bound l a true ls h on = (omega arith, within_all bound ls on)
 within_step bound l a false [] h on = (omega arith, tt)
 within_step bound l a false (x ∷ xs) h on = (let first = on.0 in let front = sum_front a x in omega arith, on.1)
 
-step_within : (bound l a : ℕ) (mark : Bool) (ls : List (List ℕ)) → FirstWithin bound l (cut mark a ls) → (l + a ≤ bound) × FirstWithin bound (loss_after mark (l + a)) ls
+step_within : (bound l a : ℕ) (mark : Bool) (ls : List (List ℕ)) → FirstWithin bound l (cut mark a ls)
+    → (l + a ≤ bound) × FirstWithin bound (loss_after mark (l + a)) ls
 step_within bound l a true ls h = (let first = h.0 in omega arith, all_within bound ls h.1)
 step_within bound l a false [] h = (let first = h.0 in omega arith, let first = h.0 in omega arith)
 step_within bound l a false (x ∷ xs) h =
@@ -52,11 +55,13 @@ step_within bound l a false (x ∷ xs) h =
     (omega arith, (omega arith, h.1))
 
 -- a repeater of the site is one whose price was entered
-pub entered_relay : (o : Option Place) (r : Money) → repeater_of of_cents o ≡ Some r → (cents : ℕ) × (entered_at o ≡ Some cents) × (r ≡ of_cents cents)
+pub entered_relay : (o : Option Place) (r : Money) → repeater_of of_cents o ≡ Some r
+    → (cents : ℕ) × (entered_at o ≡ Some cents) × (r ≡ of_cents cents)
 entered_relay None r h = let z : ◌≡◌ {A = ℕ} 0 1 = cc in absurd (omega arith)
 entered_relay (Some p) r h = priced_relay p.repeater r h
   where
-    priced_relay : (o : Option ℕ) (r : Money) → priced_as of_cents o ≡ Some r → (cents : ℕ) × (o ≡ Some cents) × (r ≡ of_cents cents)
+    priced_relay : (o : Option ℕ) (r : Money) → priced_as of_cents o ≡ Some r
+        → (cents : ℕ) × (o ≡ Some cents) × (r ≡ of_cents cents)
     priced_relay None r h = let z : ◌≡◌ {A = ℕ} 0 1 = cc in absurd (omega arith)
     priced_relay (Some cents) r h = (cents, refl, cc)
 
@@ -146,7 +151,7 @@ module _ (R : RelayProblem) where
         path = (over.entry, step, subst (λ (x : ℕ). IsPath R x rest) to ahead.path);
         relays_allowed = relays_on s.mark (arrival c s) (relays c rest) marks ahead.relays_allowed;
         within_bound = within_step bound l (loss c s) s.mark (stretches c rest)
-          (subst (λ (x : ℕ). l + x ≤ bound) lost goes.arrives) (subst FromLoss lost ahead.within_bound);
+            (subst (λ (x : ℕ). l + x ≤ bound) lost goes.arrives) (subst FromLoss lost ahead.within_bound);
       }
 
   pub from_lawful : (p l : ℕ) (run : List Step) → IsFeasibleFrom p l run → IsLawful P p l run

@@ -1,5 +1,5 @@
--- What stands in a sealed survey has passed its checks, so no way and no repeater costs more than may be entered, and a path
--- at most twice that for each of its steps.
+-- What stands in a sealed survey has passed its checks, so no way and no repeater costs more than may be
+-- entered, and a path at most twice that for each of its steps.
 use Rattle.std.proofs.Common.{◌≡◌, ℕ, zero, suc, ◌+◌, ◌*◌, ◌≤◌, Bool, true, false, cond, leb, List, [], ◌∷◌, length, is_ok, Some, None, Ok, Err, Option, refl, arith}
 use Rattle.std.specs.List.{slice_get}
 use Rattle.std.proofs.lemmas.Bool.{leb-true}
@@ -20,7 +20,8 @@ use Rattle.relays.proofs.Totals.{set_cents, value_front}
 price_low : (p : ℕ) → is_ok (price_check p) ≡ true → p ≤ MOST_CENTS
 price_low p h = by (leb p MOST_CENTS) refl h
   where
-    by : (b : Bool) → leb p MOST_CENTS ≡ b → is_ok {T = Unit {0}} {E = Refusal} (cond b (Ok tt) (Err TooDear)) ≡ true → p ≤ MOST_CENTS
+    by : (b : Bool) → leb p MOST_CENTS ≡ b
+        → is_ok {T = Unit {0}} {E = Refusal} (cond b (Ok tt) (Err TooDear)) ≡ true → p ≤ MOST_CENTS
     by true e k = leb-true p MOST_CENTS e
     by false e k = let z : ◌≡◌ {A = ℕ} 0 1 = cc in absurd (omega arith)
 
@@ -45,7 +46,8 @@ places_low (p ∷ ps) zero h = relay_low p.repeater (cond_first (is_ok (place_ch
 places_low (p ∷ ps) (suc i) h = places_low ps i (cond_second (is_ok (place_check p.repeater)) (good_places ps) h)
 
 module _ (s : Sealed) where
-  step_low : (mark : Bool) (w p : ℕ) → price_at (slice_get (sealed_contents s).ways w) + set_cents mark (relay_price (sealed_contents s) p) ≤ 2 * MOST_CENTS
+  step_low : (mark : Bool) (w p : ℕ)
+      → price_at (slice_get (sealed_contents s).ways w) + set_cents mark (relay_price (sealed_contents s) p) ≤ 2 * MOST_CENTS
   step_low mark w p =
       let d = s.draft in
       let way = ways_low _ (sealed_contents s).ways w d.good_ways in

@@ -1,6 +1,7 @@
--- A least run is an optimal path. It is feasible since it is lawful; it is so short that its value stays below the ceiling, so
--- its total is its value; and each feasible path is a lawful run, whose total is at most its value. Shown once, over any set of
--- shut ways: a plan over the survey has none, a plan at the end of a list of calls those of the closing book.
+-- A least run is an optimal path. It is feasible since it is lawful; it is so short that its value stays below
+-- the ceiling, so its total is its value; and each feasible path is a lawful run, whose total is at most its
+-- value. Shown once, over any set of shut ways: a plan over the survey has none, a plan at the end of a list of
+-- calls those of the closing book.
 use Rattle.std.proofs.Common.{◌≡◌, ℕ, ◌+◌, ◌*◌, ◌<◌, ◌≤◌, min, Bool, true, List, length, take, Ok, Err, Result, IfOk, refl, sym, ap, ◌∙◌, subst, inl, inr, mul-le-mul, arith}
 use Rattle.std.proofs.lemmas.Bool.{leb-true}
 use Rattle.std.proofs.lemmas.Result.{IfOk-weaker}
@@ -12,7 +13,7 @@ use Rattle.subject.specs.declared.run.TheConstants.{MOST_BOUND}
 use Rattle.subject.specs.declared.run.Step.{Step}
 use Rattle.subject.specs.declared.run.Request.{Request}
 use Rattle.subject.specs.declared.site.TheConstants.{MOST_PLACES}
-use Rattle.subject.specs.Moneys.{of_cents, amount, money, money_no_more}
+use Rattle.subject.specs.Moneys.{of_cents, amount, money_no_more}
 use Rattle.subject.specs.Problems.{Problem}
 use Rattle.subject.specs.Sites.{IsBounded}
 use Rattle.subject.specs.Runs.{IsLeast, NoneTwice}
@@ -22,7 +23,7 @@ use Rattle.survey.specs.Sealing.{sealed_contents}
 use Rattle.survey.specs.SurveySite.{money_problem}
 use Rattle.survey.specs.SiteBounds.{sealed_bounded}
 use Rattle.search.specs.declared.check.RowCounts.{RowCounts}
-use Rattle.search.specs.Checks.{BoundInRange, FirstCause}
+use Rattle.search.specs.Checks.{BoundInRange}
 use Rattle.search.specs.Memories.{LentMemory, counts_of}
 use Rattle.search.specs.Owned.{owned_memory}
 use Rattle.search.specs.declared.owned.OwnedRows.{OwnedRows}
@@ -59,7 +60,8 @@ module _ (s : Sealed) (shut : ℕ → Bool) (q : Request) where
   bounded : IsBounded P.site
   bounded = shutting_bounded _ shut (sealed_bounded (λ w. of_cents w.price) of_cents s)
 
-  value_countable : (run : List Step) → BoundInRange q → length run ≤ length c.places * (q.bound + 1) → value c run < CEILING
+  value_countable : (run : List Step) → BoundInRange q → length run ≤ length c.places * (q.bound + 1)
+      → value c run < CEILING
   value_countable run range short =
       let low = value_low s run in
       let few = bounded.few_places in
@@ -114,7 +116,8 @@ pub plan_answers : {Q : Type 0} (s : Sealed) (q : Request) (queue : QueueGhosts 
 plan_answers s q queue h h' r shown same o =
     let P = money_problem (sealed_contents s) q in
     let here = subst (λ c. PlanOutcome (money_problem c q) queue h h' r) same o in
-    law_answers s _ q queue (counts_of queue h) h h' r (law_holds P queue h h' (counts_of queue h) r refl here) here
+    let law = law_holds P queue h h' (counts_of queue h) r refl here in
+    law_answers s _ q queue (counts_of queue h) h h' r law here
 
 -- the plan at the end of a list of calls answers the problem with the ways of the closing book shut
 pub replay_answers : {Q : Type 0} (s : Sealed) (book : ℕ → Bool) (q : Request) (queue : QueueGhosts Q Money)
@@ -137,7 +140,9 @@ module _ {Q E : Type 0} (s : Sealed) (q : Request) (queue : QueueGhosts Q Money)
 
   pub owned_answers : (slots : Q) (rows rows' : OwnedRows Money)
       → IfOk r (λ planned. OwnedReplay (money_job shown empty_book) queue slots q es es' rows rows' planned)
-      → IfOk r (λ planned. IsAnswer (new_job_problem s es q) (counts_of queue (owned_memory rows slots)) rows'.run.items planned)
+      → IfOk r (λ planned.
+        IsAnswer (new_job_problem s es q) (counts_of queue (owned_memory rows slots)) rows'.run.items planned)
   owned_answers slots rows rows' o =
       IfOk-weaker r (λ planned. OwnedReplay (money_job shown empty_book) queue slots q es es' rows rows' planned) _
-      (λ planned p. replay_answers s empty_book q queue es es' (owned_memory rows slots) (owned_memory rows' p.0) planned shown same p.1) o
+      (λ planned p. replay_answers s empty_book q queue es es'
+        (owned_memory rows slots) (owned_memory rows' p.0) planned shown same p.1) o

@@ -1,8 +1,9 @@
--- Over the site of a survey for money the total of a lawful run is what it costs, up to the ceiling: to stop at the ceiling after
--- each joining is to stop there once. By induction over the steps from the front, for any sum so far.
+-- Over the site of a survey for money the total of a lawful run is what it costs, up to the ceiling: to stop at
+-- the ceiling after each joining is to stop there once. By induction over the steps from the front, for any sum
+-- so far.
 use Rattle.std.proofs.Common.{◌≡◌, ℕ, ◌+◌, ◌≤◌, min, Bool, true, false, cond, List, [], ◌∷◌, map, Some, sum, ap, ◌∙◌, subst, arith}
 use Rattle.std.specs.List.{slice_get}
-use Rattle.subject.specs.Moneys.{of_cents, money, sum_of}
+use Rattle.subject.specs.Moneys.{of_cents, sum_of}
 use Rattle.subject.specs.declared.money.TheConstants.{CEILING}
 use Rattle.subject.specs.declared.money.Money.{Money}
 use Rattle.survey.specs.Contents.{Contents}

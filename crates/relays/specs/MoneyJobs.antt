@@ -1,5 +1,5 @@
--- A job over a survey as a site for money, and the problem of a plan that is made on it after a list of calls. Stands on jobs, and
--- on the minimum cost path problem with relays.
+-- A job over a survey as a site for money, and the problem of a plan that is made on it after a list of calls.
+-- Stands on jobs, and on the minimum cost path problem with relays.
 use Rattle.std.specs.Prelude.{ℕ, Bool, List, length}
 use Rattle.subject.specs.declared.money.Money.{Money}
 use Rattle.subject.specs.declared.run.Request.{Request}

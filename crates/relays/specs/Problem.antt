@@ -1,7 +1,7 @@
--- The minimum cost path problem with relays, over the contents of a survey with some of its ways shut: which paths are feasible,
--- what one costs, and when one is optimal. A path is told by its steps: each has the number of a way, and says whether a repeater
--- is set where the way arrives. Stands on the contents of a survey, the loss card and the request; it knows nothing of charges
--- and their ceiling, nor of how a plan is made.
+-- The minimum cost path problem with relays, over the contents of a survey with some of its ways shut: which
+-- paths are feasible, what one costs, and when one is optimal. A path is told by its steps: each has the number
+-- of a way, and says whether a repeater is set where the way arrives. Stands on the contents of a survey, the
+-- loss card and the request; it knows nothing of charges and their ceiling, nor of how a plan is made.
 use Rattle.std.specs.Prelude.{◌≡◌, ℕ, ◌+◌, ◌≤◌, Bool, false, cond, ◌≢◌, List, [], ◌∷◌, map, Some, None, sum, Option}
 use Rattle.std.specs.List.{slice_get, AllByRecursion}
 use Rattle.survey.specs.declared.entry.Place.{Place}
@@ -65,8 +65,8 @@ abbrev pub extended : ℕ → List (List ℕ) → List (List ℕ)
 extended l [] = (l ∷ []) ∷ []
 extended l (first ∷ others) = (l ∷ first) ∷ others
 
--- the losses along the path, cut at each repeater: a list for each stretch between two repeaters, or between an end of the
--- path and the nearest repeater
+-- the losses along the path, cut at each repeater: a list for each stretch between two repeaters, or between an
+-- end of the path and the nearest repeater
 abbrev pub stretches : Contents → List Step → List (List ℕ)
 stretches c [] = [] ∷ []
 stretches c (s ∷ rest) = cond s.mark ((loss c s ∷ []) ∷ stretches c rest) (extended (loss c s) (stretches c rest))

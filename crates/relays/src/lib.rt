@@ -1,5 +1,5 @@
-// Planning for money over a sealed survey, also where some of its ways are closed by a job: the minimum cost path problem with
-// relays. docs/RELAYS.md states the problem.
+// Planning for money over a sealed survey, also where some of its ways are closed by a job: the minimum cost
+// path problem with relays. docs/RELAYS.md states the problem.
 #![tactic(auto)]
 
 ghost use Rattle.std.specs.Prelude.{◌≡◌, ℕ, IfOk, OnErr};
@@ -30,10 +30,10 @@ use survey::view::MoneyView;
 
 /// Plans a cheapest run over a sealed survey with what is lent, into the first run rows.
 ///
-/// The run is an optimal path of the problem of docs/RELAYS.md with no way shut, and the total is what it costs, to the
-/// cent. Refused are, in this order, a start or an end that is no place, a bound of 0 or over 1,000, fewer than places ×
-/// (bound + 1) rows of a sort; then nothing changes. Refused last is a request for which no path is feasible; then the run
-/// rows stay as they were.
+/// The run is an optimal path of the problem of docs/RELAYS.md with no way shut, and the total is what it
+/// costs, to the cent. Refused are, in this order, a start or an end that is no place, a bound of 0 or over
+/// 1,000, fewer than places × (bound + 1) rows of a sort; then nothing changes. Refused last is a request for
+/// which no path is feasible; then the run rows stay as they were.
 pub fn plan_for_money<Q: PriorityQueue<Charge = Money>>(
     survey: &Sealed,
     request: Request,
@@ -64,11 +64,11 @@ pub fn plan_owned_for_money<Q: PriorityQueue<Charge = Money> + Drop>(
     plan_owned(&MoneyView::over(survey), request, rows, queue)
 }
 
-/// Tries the listed calls on a job over a survey one by one, writes beside each what it gave, and then plans once more for
-/// the request, with what is lent. It takes no memory.
+/// Tries the listed calls on a job over a survey one by one, writes beside each what it gave, and then plans
+/// once more for the request, with what is lent. It takes no memory.
 ///
-/// The plan made at the end answers the problem of docs/RELAYS.md in which the ways are shut that are in the closing book
-/// for the list; it is refused as `plan_for_money` says.
+/// The plan made at the end answers the problem of docs/RELAYS.md in which the ways are shut that are in the
+/// closing book for the list; it is refused as `plan_for_money` says.
 pub fn replay_on_for_money<Q: PriorityQueue<Charge = Money>>(
     job: &mut Job<MoneyView<'_>>,
     entries: &mut [Entry<Money>],
@@ -104,8 +104,8 @@ pub fn replay_on_owned_for_money<Q: PriorityQueue<Charge = Money> + Drop>(
     replay_on_owned(job, entries, request, rows, queue)
 }
 
-/// Sets up a job over a sealed survey, with no way closed, and then does as `replay_on_for_money`. Only the set-up takes
-/// memory: the outer result says whether it was had, the inner one what the plan gave.
+/// Sets up a job over a sealed survey, with no way closed, and then does as `replay_on_for_money`. Only the
+/// set-up takes memory: the outer result says whether it was had, the inner one what the plan gave.
 pub fn replay_for_money<Q: PriorityQueue<Charge = Money>>(
     alloc: Global,
     survey: &Sealed,
@@ -125,8 +125,8 @@ pub fn replay_for_money<Q: PriorityQueue<Charge = Money>>(
     replay(alloc, MoneyView::over(survey), entries, request, memory)
 }
 
-/// Does as `replay_for_money`, over rows that the caller owns, with a queue that is handed in. Where the memory for a job is
-/// not had, nothing was tried, and entries and rows are as they were.
+/// Does as `replay_for_money`, over rows that the caller owns, with a queue that is handed in. Where the memory
+/// for a job is not had, nothing was tried, and entries and rows are as they were.
 pub fn replay_owned_for_money<Q: PriorityQueue<Charge = Money> + Drop>(
     alloc: Global,
     survey: &Sealed,
@@ -143,5 +143,12 @@ pub fn replay_owned_for_money<Q: PriorityQueue<Charge = Money> + Drop>(
         (counts_of Q.PriorityQueue (owned_memory rows.old queue)) rows.new.run.items planned) }
     ensures err { OnErr result ((entries.new ≡ entries.old) × (rows.new ≡ rows.old)) }
 {
-    replay_owned(alloc, MoneyView::over(survey), entries, request, rows, queue)
+    replay_owned(
+        alloc,
+        MoneyView::over(survey),
+        entries,
+        request,
+        rows,
+        queue,
+    )
 }

@@ -1,4 +1,5 @@
--- The view shows the survey, so the plan over owned rows, with whatever queue it comes to, answers the problem with no way shut.
+-- The view shows the survey, so the plan over owned rows, with whatever queue it comes to, answers the problem
+-- with no way shut.
 use Rattle.relays.proofs.Solving.{plan_answers}
 use Rattle.relays.proofs.plan_owned_for_money.Goals as goal
 

@@ -6,4 +6,4 @@ pub returns-clause-answer : goal.returns-clause-answer
 returns-clause-answer g c =
     let tried = c.replay_owned in
     owned_answers c.args.survey.now c.args.request g.Q.PriorityQueue _ _ _ _ c.over.ensures c.args.queue c.args.rows.now tried.new.rows
-      tried.ensures.ok
+    tried.ensures.ok
