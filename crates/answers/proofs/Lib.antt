@@ -1,0 +1,4 @@
+mod Shown
+mod Plans
+mod Printed
+mod Steps
