@@ -18,7 +18,7 @@ use Rattle.subject.specs.Sites.{IsBounded}
 use Rattle.search.specs.Checks.{RequestPasses}
 use Rattle.sheet.specs.Refused.{number_then}
 use Rattle.sheet.specs.Sheet.{run_line, mark_end, step_line, line_of, step_lines, total_line, sheet_text}
-use Rattle.answers.specs.Desk.{page_room}
+use Rattle.answers.specs.Rooms.{page_room}
 
 number_short : (n behind : ℕ) → n < 2 ^ 64 → length (number_then n behind) ≤ 21
 number_short n behind small =

@@ -30,15 +30,21 @@ use Rattle.relays.specs.MoneyJobs.{money_job}
 use Rattle.relays.specs.Problem.{RelayProblem}
 use Rattle.relays.proofs.Lawful.{money_asked}
 use Rattle.relays.proofs.Solving.{law_answers}
-use Rattle.answers.specs.Desk.{IsPlanAnswer, IsPlanResult, IsRight, AllRight, problem_with, RowsCover}
+use Rattle.answers.specs.Desk.{IsFound, IsTurnedDown, IsPlanRight, IsRight, AllRight, problem_with}
+use Rattle.answers.specs.Rooms.{RowsCover}
 use Rattle.answers.proofs.Causes.{rows_for, cause_by_itself}
 
 request_passes : (places : ℕ) (q : Request) (counts : RowCounts) → ChecksPass places q counts → RequestPasses places q
 request_passes places q counts p = record { places_exist = p.places_exist; bound_in_range = p.bound_in_range }
 
--- what is right of a plan is right of what is written beside it
+-- what a plan gave is right, where its run is in the first run rows
+abbrev pub IsPlanResult : RelayProblem → List Step → Result (Planned Money) Refusal → Type 0
+IsPlanResult R run' (Ok p) = (p.steps ≤ length run') × IsFound R (take p.steps run') p.total
+IsPlanResult R run' (Err e) = IsTurnedDown R e
+
+-- then what is written beside the plan is right
 result_answer : (R : RelayProblem) (run' : List Step) (r : Result (Planned Money) Refusal) → IsPlanResult R run' r
-    → IsPlanAnswer R (of_plan r)
+    → IsPlanRight R (of_plan r)
 result_answer R run' (Ok p) w = (take p.steps run', sym (length-take-le p.steps run' w.0), w.1)
 result_answer R run' (Err e) w = w
 
@@ -79,7 +85,7 @@ module _ {Q : Type 0} (s : Sealed) (queue : QueueGhosts Q Money) where
         let R = problem_with c book q in
         let enough = rows_for (length c.places) q (counts_of queue h) bound covers rows in
         let run_rows = ap (λ (k : RowCounts). k.run) same in
-        subst (IsPlanAnswer R) (sym t.1) (result_answer R h'.run t.0 (plan_right book q h h' t.0 enough run_rows t.2))
+        subst (IsPlanRight R) (sym t.1) (result_answer R h'.run t.0 (plan_right book q h h' t.0 enough run_rows t.2))
 
     pub calls_right : (book : ℕ → Bool) (h h' : LentMemory Money Q) (es : List (Entry Money))
         → AllByRecursion (Covers bound) (calls_of es)

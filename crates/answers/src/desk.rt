@@ -5,8 +5,9 @@ ghost use Rattle.search.specs.Memories.{counts_of, lent_memory};
 ghost use Rattle.job.specs.Replay.{calls_of};
 ghost use Rattle.survey.specs.Sealing.{sealed_contents};
 ghost use Rattle.sheet.specs.Printing.{IsPrinted, SomePrinted};
-ghost use Rattle.answers.specs.Desk.{answer_words, done_word, entry_line, entry_lines, trouble_line, IsDesk};
-ghost use Rattle.answers.specs.Desk.{IsPrintedPlan, IsReplay, RowsCover};
+ghost use Rattle.answers.specs.Desk.{answer_words, done_word, entry_line, entry_lines, trouble_line};
+ghost use Rattle.answers.specs.Desk.{IsDeskAnswer, IsReplayText};
+ghost use Rattle.answers.specs.Rooms.{IsGivenText, RowsCover};
 
 use job::list::{Answer, Call, Entry};
 use job::script::{Script, Trouble, read_script_bytes};
@@ -62,7 +63,7 @@ fn done_word(call: Call) -> &'static str
 }
 
 // The line of one entry.
-fn print_entry<W: Write>(out: &mut W, entry: Entry<Money>) -> anyhow::Result<()>
+fn print_entry<W: Write>(entry: Entry<Money>, out: &mut W) -> anyhow::Result<()>
     ensures { OnOk result (IsPrinted W.Write out.old out.new (entry_line entry)) }
 {
     let gave = Gave { entry };
@@ -71,17 +72,17 @@ fn print_entry<W: Write>(out: &mut W, entry: Entry<Money>) -> anyhow::Result<()>
 }
 
 // A line for each entry.
-fn print_entries<W: Write>(out: &mut W, entries: &[Entry<Money>]) -> anyhow::Result<()>
+fn print_entries<W: Write>(entries: &[Entry<Money>], out: &mut W) -> anyhow::Result<()>
     ensures { OnOk result (IsPrinted W.Write out.old out.new (entry_lines entries.now)) }
 {
     for entry in entries {
-        print_entry(out, *entry)?;
+        print_entry(*entry, out)?;
     }
     Ok(())
 }
 
 // The line that says why a text is no script.
-fn print_trouble<W: Write>(out: &mut W, trouble: Trouble) -> anyhow::Result<()>
+fn print_trouble<W: Write>(trouble: Trouble, out: &mut W) -> anyhow::Result<()>
     ensures { OnOk result (IsPrinted W.Write out.old out.new (trouble_line trouble)) }
 {
     writeln!(out, "{trouble}; nothing was tried")?;
@@ -91,14 +92,14 @@ fn print_trouble<W: Write>(out: &mut W, trouble: Trouble) -> anyhow::Result<()>
 // What a plan over a survey gave: the sheet of its run, which is in the first run rows, or why there is none.
 fn print_plan<W: Write>(
     alloc: Global,
-    out: &mut W,
     survey: &Sealed,
     request: Request,
     run: &[Step],
     gave: Result<Planned<Money>, Refusal>,
+    out: &mut W,
 ) -> anyhow::Result<()>
     requires { ForOk gave (λ p. (p.steps ≤ length run.now) × (p.steps < 2 ^ 32)) }
-    ensures { OnOk result (SomePrinted W.Write out.old out.new (IsPrintedPlan survey.now request run.now gave)) }
+    ensures { OnOk result (SomePrinted W.Write out.old out.new (IsGivenText survey.now request run.now gave)) }
 {
     match gave {
         Ok(planned) => print_sheet(
@@ -116,11 +117,11 @@ fn print_plan<W: Write>(
 // Tries the listed calls and then the plan, and prints what each gave, where there are rows enough.
 fn replay_in<W: Write, Q: PriorityQueue<Charge = Money>>(
     alloc: Global,
-    out: &mut W,
     survey: &Sealed,
     entries: &mut [Entry<Money>],
     last: Request,
     memory: &mut Memory<'_, Money, Q>,
+    out: &mut W,
 ) -> anyhow::Result<()>
     requires {
         RowsCover (length (sealed_contents survey.now).places) (calls_of entries.old) last
@@ -128,24 +129,24 @@ fn replay_in<W: Write, Q: PriorityQueue<Charge = Money>>(
     }
     ensures {
         OnOk result (SomePrinted W.Write out.old out.new
-            (IsReplay (sealed_contents survey.now) (calls_of entries.old) last))
+            (IsReplayText (sealed_contents survey.now) (calls_of entries.old) last))
     }
 {
     let gave = replay_for_money(alloc, survey, entries, last, memory)?;
-    print_entries(out, entries)?;
-    print_plan(alloc, out, survey, last, memory.run, gave)
+    print_entries(entries, out)?;
+    print_plan(alloc, survey, last, memory.run, gave, out)
 }
 
 // Tries the calls of a script, with rows enough for the plan that needs most.
 fn try_script<W: Write>(
     alloc: Global,
-    out: &mut W,
     survey: &Sealed,
     mut script: Script,
+    out: &mut W,
 ) -> anyhow::Result<()>
     ensures {
         OnOk result (SomePrinted W.Write out.old out.new
-            (IsReplay (sealed_contents survey.now) (calls_of script.entries.items) script.last))
+            (IsReplayText (sealed_contents survey.now) (calls_of script.entries.items) script.last))
     }
 {
     let count = survey.places() * (script.largest_bound() + 1);
@@ -153,7 +154,7 @@ fn try_script<W: Write>(
     let mut rows = OwnedRows::blank(alloc, count)?;
     let mut memory = rows.lend(Heap::over(&mut queue_rows));
     let last = script.last;
-    replay_in(alloc, out, survey, script.entries.as_mut_slice(), last, &mut memory)
+    replay_in(alloc, survey, script.entries.as_mut_slice(), last, &mut memory, out)
 }
 
 /// Reads a survey file and a text of calls, tries the calls one by one on a job over the survey, for money, and writes what each
@@ -165,14 +166,14 @@ fn try_script<W: Write>(
 /// and nothing is tried.
 ///
 /// There is an error only where memory is not had or the writer fails; what was written before stays written.
-pub fn answer<W: Write>(alloc: Global, out: &mut W, file: &[u8], text: &[u8]) -> anyhow::Result<()>
-    ensures { OnOk result (SomePrinted W.Write out.old out.new (IsDesk file.now text.now)) }
+pub fn answer<W: Write>(alloc: Global, file: &[u8], text: &[u8], out: &mut W) -> anyhow::Result<()>
+    ensures { OnOk result (SomePrinted W.Write out.old out.new (IsDeskAnswer file.now text.now)) }
 {
     let Some(survey) = survey_in(alloc, out, file)? else {
         return Ok(());
     };
     match read_script_bytes(alloc, text)? {
-        Ok(script) => try_script(alloc, out, &survey, script),
-        Err(trouble) => print_trouble(out, trouble),
+        Ok(script) => try_script(alloc, &survey, script, out),
+        Err(trouble) => print_trouble(trouble, out),
     }
 }

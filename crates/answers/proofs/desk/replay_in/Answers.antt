@@ -7,8 +7,8 @@ use Rattle.search.specs.Memories.{lent_memory}
 use Rattle.job.specs.Book.{book_for}
 use Rattle.job.specs.Replay.{calls_of}
 use Rattle.survey.specs.Sealing.{sealed_contents}
-use Rattle.answers.specs.Desk.{entry_lines, IsPlanResult, problem_with}
-use Rattle.answers.proofs.Printed.{plan_printed, plan_short}
+use Rattle.answers.specs.Desk.{entry_lines}
+use Rattle.answers.proofs.Sheets.{plan_printed, plan_short}
 use Rattle.answers.proofs.Replayed.{entries_right, next_right}
 use Rattle.answers.proofs.desk.replay_in.Goals as goal
 
@@ -43,11 +43,11 @@ returns g c =
       entry_lines entries' ++ printed.0,
       record {
         entries = entries';
-        rest = printed.0;
+        plan = printed.0;
         same_calls = outcome.calls;
         right = entries_right survey g.Q.PriorityQueue last entries entries' (lent_memory memory) (lent_memory memory') gave
             c.requires outcome;
-        plan = plan_printed survey (book_for (length s.ways) (calls_of entries)) last memory'.run.now gave printed.0 right
+        planned = plan_printed survey (book_for (length s.ways) (calls_of entries)) last memory'.run.now gave printed.0 right
             printed.1;
         whole = refl;
       },

@@ -23,7 +23,9 @@ use Rattle.sheet.specs.Sheet.{run_line, step_lines, total_line, sheet_text}
 use Rattle.relays.specs.Problem.{RelayProblem, all_open, value}
 use Rattle.relays.proofs.Lawful.{feasible_lawful, money_asked}
 use Rattle.relays.proofs.Totals.{capped, total_capped}
-use Rattle.answers.specs.Desk.{IsBest, IsPlanResult, IsPlanText, IsPrintedPlan, page_room, problem_with}
+use Rattle.answers.specs.Desk.{IsFound, IsPlanText, problem_with}
+use Rattle.answers.specs.Rooms.{IsGivenText, page_room}
+use Rattle.answers.proofs.Replayed.{IsPlanResult}
 use Rattle.answers.proofs.Causes.{not_cause}
 use Rattle.answers.proofs.Pages.{sheet_fits}
 
@@ -52,13 +54,13 @@ module _ (R : RelayProblem) where
     open_lawful w.to (loss_after s.mark (l + w.loss)) rest on,
   )
 
-  best_lawful : (run : List Step) (sum : Money) → IsBest R run sum → IsRun P run
-  best_lawful run sum b =
+  found_lawful : (run : List Step) (sum : Money) → IsFound R run sum → IsRun P run
+  found_lawful run sum b =
       open_lawful R.request.start 0 run (feasible_lawful R run b.solution.optimal.feasible)
 
-  best_total : (run : List Step) (sum : Money) → IsBest R run sum → total P run ≡ sum
-  best_total run sum b =
-      let all = total_capped (all_open R.contents R.request) R.request.start 0 0 run (omega arith) (best_lawful run sum b) in
+  found_total : (run : List Step) (sum : Money) → IsFound R run sum → total P run ≡ sum
+  found_total run sum b =
+      let all = total_capped (all_open R.contents R.request) R.request.start 0 0 run (omega arith) (found_lawful run sum b) in
       let countable = b.solution.countable in
       let uncapped : min (0 + value R.contents run) CEILING ≡ value R.contents run = omega arith in
       all ∙ ap of_cents uncapped ∙ sym b.solution.exact
@@ -68,21 +70,16 @@ module _ (s : Sealed) (shut : ℕ → Bool) (q : Request) where
   R' = problem_with (sealed_contents s) shut q
 
   pub plan_printed : (run' : List Step) (r : Result (Planned Money) Refusal) (text : List ℕ) → IsPlanResult R' run' r
-      → IsPrintedPlan s q run' r text → IsPlanText R' text
+      → IsGivenText s q run' r text → IsPlanText R' text
   plan_printed run' (Ok p) text w shown =
       let run = take p.steps run' in
       let best = w.1 in
-      let lawful = best_lawful R' run p.total best in
+      let lawful = found_lawful R' run p.total best in
       let long = length-take-le p.steps run' w.0 in
       let bounded = sealed_bounded (λ v. of_cents v.price) of_cents s in
       let fits = sheet_fits (P R') bounded best.passes.bound_in_range.most run best.passes lawful in
       elim shown [
-        | inl sheet ↦ inl (record {
-          run = run;
-          total = p.total;
-          best = best;
-          lines = sheet.0 ∙ ap (λ (sum : Money). run_line q ++ (step_lines (P R') 0 run ++ total_line sum)) (best_total R' run p.total best);
-        })
+        | inl sheet ↦ inl (run, subst (IsFound R' run) (sym (found_total R' run p.total best)) best, sheet.0)
         | inr refusal ↦ absurd (elim refusal.2 [
           | inl a ↦ not_cause (length (sealed_contents s).places) q refusal.0 a best.passes
           | inr a ↦ elim a.1 [
@@ -91,7 +88,7 @@ module _ (s : Sealed) (shut : ℕ → Bool) (q : Request) where
           ]
         ])
       ]
-  plan_printed run' (Err e) text w shown = inr (record { cause = e; none = w; line = shown })
+  plan_printed run' (Err e) text w shown = inr (e, w, shown)
 
   -- the run of a right plan has few steps
   pub plan_short : (run' : List Step) (r : Result (Planned Money) Refusal) → IsPlanResult R' run' r
