@@ -1,5 +1,6 @@
-// What programs answer to the bytes that they read: from these to the text that is printed, in one call for each program.
+//! What the programs answer: from the bytes that one reads to the text that it has printed, each as one call.
 #![tactic(auto)]
 
+pub mod desk;
 pub mod line;
 pub mod price;
