@@ -59,11 +59,11 @@ fn try_all<S: Site, Q: PriorityQueue<Charge = S::Charge>>(
     }
 }
 
-/// Tries the listed calls on a job one by one, writes beside each what it gave, and then plans once more for the request,
-/// over slices of cell rows and run rows.
+/// Tries the listed calls on a job one by one, writes beside each what it gave, and then plans once more for
+/// the request, over slices of cell rows and run rows.
 ///
-/// It takes no memory. The plan made at the end follows the law of docs/SUBJECT.md: it is a least run over the ways that
-/// are open below and not in the closing book for the list, or there is none.
+/// It takes no memory. The plan made at the end follows the law of docs/SUBJECT.md: it is a least run over the
+/// ways that are open below and not in the closing book for the list, or there is none.
 pub fn replay_slices<S: Site, Q: PriorityQueue<Charge = S::Charge>>(
     job: &mut Job<S>,
     entries: &mut [Entry<S::Charge>],
@@ -74,8 +74,8 @@ pub fn replay_slices<S: Site, Q: PriorityQueue<Charge = S::Charge>>(
 ) -> Result<Planned<S::Charge>, Refusal>
     ensures below { site_below job.new ≡ site_below job.old }
     ensures book { (n : ℕ) → closed_by job.new n ≡ book_after S.Site job.old entries.old n }
-    ensures replayed { ReplayOutcome (state_of S.Site S.Charge.Charge job.old) Q.PriorityQueue request entries.old entries.new
-        (record { cells = cells.old; queue = queue.old; run = run.old })
+    ensures replayed { ReplayOutcome (state_of S.Site S.Charge.Charge job.old) Q.PriorityQueue request
+        entries.old entries.new (record { cells = cells.old; queue = queue.old; run = run.old })
         (record { cells = cells.new; queue = queue.new; run = run.new }) result }
     ensures lenders { Q.PriorityQueue.lenders queue.new ≡ Q.PriorityQueue.lenders queue.old }
 {
@@ -92,8 +92,8 @@ pub fn replay_on<S: Site, Q: PriorityQueue<Charge = S::Charge>>(
 ) -> Result<Planned<S::Charge>, Refusal>
     ensures below { site_below job.new ≡ site_below job.old }
     ensures book { (n : ℕ) → closed_by job.new n ≡ book_after S.Site job.old entries.old n }
-    ensures replayed { ReplayOutcome (state_of S.Site S.Charge.Charge job.old) Q.PriorityQueue request entries.old entries.new
-        (lent_memory memory.old) (lent_memory memory.new) result }
+    ensures replayed { ReplayOutcome (state_of S.Site S.Charge.Charge job.old) Q.PriorityQueue request
+        entries.old entries.new (lent_memory memory.old) (lent_memory memory.new) result }
     ensures same { SameLenders Q.PriorityQueue memory.old memory.new }
 {
     replay_slices(
@@ -117,8 +117,8 @@ pub fn replay_on_owned<S: Site, Q: PriorityQueue<Charge = S::Charge> + Drop>(
 ) -> Result<Planned<S::Charge>, Refusal>
     ensures below { site_below job.new ≡ site_below job.old }
     ensures book { (n : ℕ) → closed_by job.new n ≡ book_after S.Site job.old entries.old n }
-    ensures replayed { OwnedReplay (state_of S.Site S.Charge.Charge job.old) Q.PriorityQueue queue request entries.old entries.new
-        rows.old rows.new result }
+    ensures replayed { OwnedReplay (state_of S.Site S.Charge.Charge job.old) Q.PriorityQueue queue request
+        entries.old entries.new rows.old rows.new result }
 {
     replay_slices(
         job,
@@ -130,8 +130,8 @@ pub fn replay_on_owned<S: Site, Q: PriorityQueue<Charge = S::Charge> + Drop>(
     )
 }
 
-/// Sets up a job over a site, and then does as `replay_on`. Only the set-up takes memory: the outer result says whether it
-/// was had, the inner one what the plan gave.
+/// Sets up a job over a site, and then does as `replay_on`. Only the set-up takes memory: the outer result says
+/// whether it was had, the inner one what the plan gave.
 pub fn replay<S: Site + Drop, Q: PriorityQueue<Charge = S::Charge>>(
     alloc: Global,
     site: S,
@@ -140,8 +140,8 @@ pub fn replay<S: Site + Drop, Q: PriorityQueue<Charge = S::Charge>>(
     memory: &mut Memory<'_, S::Charge, Q>,
 ) -> Result<Result<Planned<S::Charge>, Refusal>, AllocError>
     ensures ok { IfOk result (λ planned.
-        ReplayOutcome (state_over S.Site S.Charge.Charge site empty_book) Q.PriorityQueue request entries.old entries.new
-        (lent_memory memory.old) (lent_memory memory.new) planned) }
+        ReplayOutcome (state_over S.Site S.Charge.Charge site empty_book) Q.PriorityQueue request
+        entries.old entries.new (lent_memory memory.old) (lent_memory memory.new) planned) }
     ensures err { OnErr result (IsUntouched entries.old entries.new (lent_memory memory.old) (lent_memory memory.new)) }
     ensures same { SameLenders Q.PriorityQueue memory.old memory.new }
 {
@@ -149,8 +149,8 @@ pub fn replay<S: Site + Drop, Q: PriorityQueue<Charge = S::Charge>>(
     Ok(replay_on(&mut job, entries, request, memory))
 }
 
-/// Sets up a job over a site, and then does as `replay_on_owned`. Only the set-up takes memory; where it is not had, nothing
-/// was tried, and entries and rows are as they were.
+/// Sets up a job over a site, and then does as `replay_on_owned`. Only the set-up takes memory; where it is not
+/// had, nothing was tried, and entries and rows are as they were.
 pub fn replay_owned<S: Site + Drop, Q: PriorityQueue<Charge = S::Charge> + Drop>(
     alloc: Global,
     site: S,
