@@ -27,9 +27,9 @@ module _ {C : Type 0} (P : Problem C) (bounded : IsBounded P.site) where
   loss l s = loss_behind (P.site.way s.way) s.mark l
 
   -- the numbers that a run leaves
-  abbrev left : ℕ → ℕ → List Step → List ℕ
-  left p l [] = []
-  left p l (s ∷ rest) = cell p l ∷ left (place s) (loss l s) rest
+  abbrev run_cells : ℕ → ℕ → List Step → List ℕ
+  run_cells p l [] = []
+  run_cells p l (s ∷ rest) = cell p l ∷ run_cells (place s) (loss l s) rest
 
   -- a lawful step leaves a place of the site, and arrives with a loss within the bound, and lawfully goes on
   record StepLeads (p l : ℕ) (s : Step) (rest : List Step) : Type 0 where
@@ -48,20 +48,20 @@ module _ {C : Type 0} (P : Problem C) (bounded : IsBounded P.site) where
         lawful = subst (λ (x : ℕ). IsLawful P (place s) x rest) lost here;
       }
 
-  left_length : (p l : ℕ) (run : List Step) → length (left p l run) ≡ length run
-  left_length p l [] = refl
-  left_length p l (s ∷ rest) = ap suc (left_length (place s) (loss l s) rest)
+  cells_length : (p l : ℕ) (run : List Step) → length (run_cells p l run) ≡ length run
+  cells_length p l [] = refl
+  cells_length p l (s ∷ rest) = ap suc (cells_length (place s) (loss l s) rest)
 
-  left_below : (p l : ℕ) (run : List Step) → l ≤ bound → IsLawful P p l run → (y : ℕ)
-      → list_any (eqb y) (left p l run) ≡ true → y < P.site.places * (bound + 1)
-  left_below p l [] low on y among = absurd (let z : ◌≡◌ {A = ℕ} 0 1 = cc in omega arith)
-  left_below p l (s ∷ rest) low on y among =
+  cells_below : (p l : ℕ) (run : List Step) → l ≤ bound → IsLawful P p l run → (y : ℕ)
+      → list_any (eqb y) (run_cells p l run) ≡ true → y < P.site.places * (bound + 1)
+  cells_below p l [] low on y among = absurd (let z : ◌≡◌ {A = ℕ} 0 1 = cc in omega arith)
+  cells_below p l (s ∷ rest) low on y among =
       let next = leads p l s rest on in
       let short : l < bound + 1 = omega arith in
       let Below : ℕ → Type 0 = λ x. x < P.site.places * (bound + 1) in
       elim (or_cases _ _ among) [
         | inl is ↦ subst Below (sym (eqb-true y (cell p l) is)) (digits_lt next.inside short)
-        | inr later ↦ left_below (place s) (loss l s) rest next.low next.lawful y later
+        | inr later ↦ cells_below (place s) (loss l s) rest next.low next.lawful y later
       ]
 
   one_cell : (p l a b : ℕ) → l ≤ bound → b ≤ bound → cell p l ≡ cell a b → (p ≡ a) × (l ≡ b)
@@ -72,31 +72,31 @@ module _ {C : Type 0} (P : Problem C) (bounded : IsBounded P.site) where
         sym (digits_mod p short) ∙ ap (λ (x : ℕ). x % (bound + 1)) e ∙ digits_mod a short',
       )
 
-  left_avoids : (a b p l : ℕ) (run : List Step) → b ≤ bound → l ≤ bound → IsLawful P p l run → IsAvoided P a b p l run
-      → AllByRecursion (λ y. eqb (cell a b) y ≡ false) (left p l run)
-  left_avoids a b p l [] low' low on h = tt
-  left_avoids a b p l (s ∷ rest) low' low on h =
+  cells_avoids : (a b p l : ℕ) (run : List Step) → b ≤ bound → l ≤ bound → IsLawful P p l run → IsAvoided P a b p l run
+      → AllByRecursion (λ y. eqb (cell a b) y ≡ false) (run_cells p l run)
+  cells_avoids a b p l [] low' low on h = tt
+  cells_avoids a b p l (s ∷ rest) low' low on h =
       let next = leads p l s rest on in (
         ne_eqb (cell a b) (cell p l) (λ e. let same = one_cell p l a b low low' (sym e) in h.0 same.0 same.1),
-        left_avoids a b (place s) (loss l s) rest low' next.low next.lawful h.1,
+        cells_avoids a b (place s) (loss l s) rest low' next.low next.lawful h.1,
       )
 
-  left_distinct : (p l : ℕ) (run : List Step) → l ≤ bound → IsLawful P p l run → NoneTwice P p l run
-      → IsDistinct eqb (left p l run)
+  cells_distinct : (p l : ℕ) (run : List Step) → l ≤ bound → IsLawful P p l run → NoneTwice P p l run
+      → IsDistinct eqb (run_cells p l run)
   unfolding IsDistinct
-  left_distinct p l [] low on h = tt
-  left_distinct p l (s ∷ rest) low on h =
+  cells_distinct p l [] low on h = tt
+  cells_distinct p l (s ∷ rest) low on h =
       let next = leads p l s rest on in (
-        left_avoids p l (place s) (loss l s) rest low next.low next.lawful h.0,
-        left_distinct (place s) (loss l s) rest next.low next.lawful h.1,
+        cells_avoids p l (place s) (loss l s) rest low next.low next.lawful h.0,
+        cells_distinct (place s) (loss l s) rest next.low next.lawful h.1,
       )
 
   pub few_steps : (run : List Step) → IsRun P run → NoneTwice P P.request.start 0 run
       → length run ≤ P.site.places * (P.request.bound + 1)
   few_steps run on h =
       let start = P.request.start in
-      let same = left_length start 0 run in
-      let distinct = left_distinct start 0 run (omega arith) on h in
-      let below = left_below start 0 run (omega arith) on in
-      let few = length-le_from_distinct_below (left start 0 run) (P.site.places * (bound + 1)) distinct below in
+      let same = cells_length start 0 run in
+      let distinct = cells_distinct start 0 run (omega arith) on h in
+      let below = cells_below start 0 run (omega arith) on in
+      let few = length-le_from_distinct_below (run_cells start 0 run) (P.site.places * (bound + 1)) distinct below in
       omega arith

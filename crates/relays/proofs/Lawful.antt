@@ -17,36 +17,36 @@ use Rattle.search.proofs.Trails.{after_low}
 use Rattle.survey.specs.SurveySite.{money_site, way_of, open_way, repeater_of, priced_as, entry_loss}
 use Rattle.survey.specs.SiteBounds.{entered}
 use Rattle.job.specs.Jobs.{shutting}
-use Rattle.relays.specs.Problem.{RelayProblem, IsStepFrom, IsPath, loss_at, arrival_at, loss, arrival, relays, extended, stretches, entered_at, IsRelayAllowed, IsFeasible}
+use Rattle.relays.specs.Problem.{RelayProblem, IsStepFrom, IsPath, loss_at, arrival_at, loss, arrival, relays, with_loss, stretches, repeater_at, IsRelayAllowed, IsFeasible}
 
 pub sum_front : (x : ℕ) (xs : List ℕ) → sum (x ∷ xs) ≡ x + sum xs
 sum_front x xs = sum_by-cons (λ y. y) x xs
 
 -- the first stretch keeps within the bound with the loss l before it, and every other one does by itself
-abbrev pub FirstWithin : ℕ → ℕ → List (List ℕ) → Type 0
-FirstWithin bound l [] = l ≤ bound
-FirstWithin bound l (first ∷ others) = (l + sum first ≤ bound) × All (λ losses. sum losses ≤ bound) others
+abbrev pub IsWithinFrom : ℕ → ℕ → List (List ℕ) → Type 0
+IsWithinFrom bound l [] = l ≤ bound
+IsWithinFrom bound l (first ∷ others) = (l + sum first ≤ bound) × All (λ losses. sum losses ≤ bound) others
 
-all_within : (bound : ℕ) (ls : List (List ℕ)) → All (λ losses. sum losses ≤ bound) ls → FirstWithin bound 0 ls
+all_within : (bound : ℕ) (ls : List (List ℕ)) → All (λ losses. sum losses ≤ bound) ls → IsWithinFrom bound 0 ls
 all_within bound [] h = omega arith
 all_within bound (x ∷ xs) h = (let first = h.0 in omega arith, h.1)
 
-within_all : (bound : ℕ) (ls : List (List ℕ)) → FirstWithin bound 0 ls → All (λ losses. sum losses ≤ bound) ls
+within_all : (bound : ℕ) (ls : List (List ℕ)) → IsWithinFrom bound 0 ls → All (λ losses. sum losses ≤ bound) ls
 within_all bound [] h = tt
 within_all bound (x ∷ xs) h = (let first = h.0 in omega arith, h.1)
 
 -- a step that loses a before the stretches ls, with a repeater where it arrives or without
 abbrev cut : Bool → ℕ → List (List ℕ) → List (List ℕ)
-cut mark a ls = cond mark ((a ∷ []) ∷ ls) (extended a ls)
+cut mark a ls = cond mark ((a ∷ []) ∷ ls) (with_loss a ls)
 
 within_step : (bound l a : ℕ) (mark : Bool) (ls : List (List ℕ)) → l + a ≤ bound
-    → FirstWithin bound (loss_after mark (l + a)) ls → FirstWithin bound l (cut mark a ls)
+    → IsWithinFrom bound (loss_after mark (l + a)) ls → IsWithinFrom bound l (cut mark a ls)
 within_step bound l a true ls h on = (omega arith, within_all bound ls on)
 within_step bound l a false [] h on = (omega arith, tt)
 within_step bound l a false (x ∷ xs) h on = (let first = on.0 in let front = sum_front a x in omega arith, on.1)
 
-step_within : (bound l a : ℕ) (mark : Bool) (ls : List (List ℕ)) → FirstWithin bound l (cut mark a ls)
-    → (l + a ≤ bound) × FirstWithin bound (loss_after mark (l + a)) ls
+step_within : (bound l a : ℕ) (mark : Bool) (ls : List (List ℕ)) → IsWithinFrom bound l (cut mark a ls)
+    → (l + a ≤ bound) × IsWithinFrom bound (loss_after mark (l + a)) ls
 step_within bound l a true ls h = (let first = h.0 in omega arith, all_within bound ls h.1)
 step_within bound l a false [] h = (let first = h.0 in omega arith, let first = h.0 in omega arith)
 step_within bound l a false (x ∷ xs) h =
@@ -56,7 +56,7 @@ step_within bound l a false (x ∷ xs) h =
 
 -- a repeater of the site is one whose price was entered
 pub entered_relay : (o : Option Place) (r : Money) → repeater_of of_cents o ≡ Some r
-    → (cents : ℕ) × (entered_at o ≡ Some cents) × (r ≡ of_cents cents)
+    → (cents : ℕ) × (repeater_at o ≡ Some cents) × (r ≡ of_cents cents)
 entered_relay None r h = let z : ◌≡◌ {A = ℕ} 0 1 = cc in absurd (omega arith)
 entered_relay (Some p) r h = priced_relay p.repeater r h
   where
@@ -65,7 +65,7 @@ entered_relay (Some p) r h = priced_relay p.repeater r h
     priced_relay None r h = let z : ◌≡◌ {A = ℕ} 0 1 = cc in absurd (omega arith)
     priced_relay (Some cents) r h = (cents, refl, cc)
 
-pub relay_entered : (o : Option Place) (cents : ℕ) → entered_at o ≡ Some cents → repeater_of of_cents o ≡ Some (of_cents cents)
+pub relay_entered : (o : Option Place) (cents : ℕ) → repeater_at o ≡ Some cents → repeater_of of_cents o ≡ Some (of_cents cents)
 relay_entered None cents h = let z : ◌≡◌ {A = ℕ} 0 1 = cc in absurd (omega arith)
 relay_entered (Some p) cents h = ap (priced_as of_cents) h
 
@@ -80,13 +80,13 @@ unshut_open false o w n e = e
 
 -- what a plan for money is asked
 abbrev pub money_asked : RelayProblem → Problem Money
-money_asked R = record { kind = money; site = shutting (money_site R.contents) R.shut; request = R.request }
+money_asked R = record { kind = money; site = shutting (money_site R.contents) R.is_shut; request = R.request }
 
 -- a step over an open way: what was entered for the way, and what is known of it
 pub record Crossing (R : RelayProblem) (s : Step) (w : Way Money) : Type 0 where
   pub entry : WayEntry
   pub entered : slice_get R.contents.ways s.way ≡ Some entry
-  pub not_shut : R.shut s.way ≡ false
+  pub not_shut : R.is_shut s.way ≡ false
   pub way : w ≡ open_way entry (of_cents entry.price)
 
 module _ (R : RelayProblem) where
@@ -95,7 +95,7 @@ module _ (R : RelayProblem) where
 
   pub crossing : (s : Step) (w : Way Money) → P.site.way s.way ≡ Some w → Crossing R s w
   crossing s w opens =
-      let unshut = open_unshut (R.shut s.way) (way_of (λ e. of_cents e.price) (slice_get R.contents.ways s.way)) w opens in
+      let unshut = open_unshut (R.is_shut s.way) (way_of (λ e. of_cents e.price) (slice_get R.contents.ways s.way)) w opens in
       let e = entered (λ e. of_cents e.price) (slice_get R.contents.ways s.way) w unshut.1 in
       record { entry = e.0; entered = e.1; not_shut = unshut.0; way = e.2 }
 
@@ -127,7 +127,7 @@ module _ (R : RelayProblem) where
   pub record IsFeasibleFrom (p l : ℕ) (run : List Step) : Type 0 where
     pub path : IsPath R p run
     pub relays_allowed : All (IsRelayAllowed R) (relays R.contents run)
-    pub within_bound : FirstWithin R.request.bound l (stretches R.contents run)
+    pub within_bound : IsWithinFrom R.request.bound l (stretches R.contents run)
 
   pub lawful_from : (p l : ℕ) (run : List Step) → l ≤ R.request.bound → IsLawful P p l run → IsFeasibleFrom p l run
   lawful_from p l [] low here = record { path = here; relays_allowed = tt; within_bound = (omega arith, tt) }
@@ -146,7 +146,7 @@ module _ (R : RelayProblem) where
         not_shut = over.not_shut;
         leaves = sym (ap (λ v. v.from) over.way) ∙ goes.leaves;
       } in
-      let FromLoss : ℕ → Type 0 = λ x. FirstWithin bound (loss_after s.mark (l + x)) (stretches c rest) in
+      let FromLoss : ℕ → Type 0 = λ x. IsWithinFrom bound (loss_after s.mark (l + x)) (stretches c rest) in
       record {
         path = (over.entry, step, subst (λ (x : ℕ). IsPath R x rest) to ahead.path);
         relays_allowed = relays_on s.mark (arrival c s) (relays c rest) marks ahead.relays_allowed;
@@ -166,9 +166,9 @@ module _ (R : RelayProblem) where
       let lost : loss c s ≡ entry_loss e = ap loss_at at.entered in
       let step = step_within bound l (loss c s) s.mark (stretches c rest) a.within_bound in
       let set = relays_back s.mark (arrival c s) (relays c rest) a.relays_allowed in
-      let FromLoss : ℕ → Type 0 = λ x. FirstWithin bound (loss_after s.mark (l + x)) (stretches c rest) in
+      let FromLoss : ℕ → Type 0 = λ x. IsWithinFrom bound (loss_after s.mark (l + x)) (stretches c rest) in
       let goes : IsStepOver P p l s w = record {
-        opens = unshut_open (R.shut s.way) (way_of (λ v. of_cents v.price) (slice_get c.ways s.way)) w at.not_shut way;
+        opens = unshut_open (R.is_shut s.way) (way_of (λ v. of_cents v.price) (slice_get c.ways s.way)) w at.not_shut way;
         leaves = at.leaves;
         arrives = subst (λ (x : ℕ). l + x ≤ bound) lost step.0;
         marks = subst (λ (x : ℕ). IsMarkAllowed P s.mark x) (ap arrival_at at.entered) set.0;

@@ -14,7 +14,7 @@ use Rattle.survey.specs.Sealing.{sealed_contents}
 use Rattle.survey.specs.Checks.{then, price_check, place_check, ends_check, way_check, good_places, good_way, good_ways}
 use Rattle.survey.specs.PassedChecks.{cond_first, cond_second, way_passed, then_passed}
 use Rattle.subject.specs.declared.run.Step.{Step}
-use Rattle.relays.specs.Problem.{price_at, arrival, entered_at, relay_cents, relay_price, value}
+use Rattle.relays.specs.Problem.{price_at, arrival, repeater_at, relay_cents, relay_price, value}
 use Rattle.relays.proofs.Totals.{set_cents, value_front}
 
 price_low : (p : ℕ) → is_ok (price_check p) ≡ true → p ≤ MOST_CENTS
@@ -40,7 +40,7 @@ relay_low : (o : Option ℕ) → is_ok (place_check o) ≡ true → relay_cents 
 relay_low None h = omega arith
 relay_low (Some cents) h = price_low cents h
 
-places_low : (ps : List Place) (i : ℕ) → good_places ps ≡ true → relay_cents (entered_at (slice_get ps i)) ≤ MOST_CENTS
+places_low : (ps : List Place) (i : ℕ) → good_places ps ≡ true → relay_cents (repeater_at (slice_get ps i)) ≤ MOST_CENTS
 places_low [] i h = omega arith
 places_low (p ∷ ps) zero h = relay_low p.repeater (cond_first (is_ok (place_check p.repeater)) (good_places ps) h)
 places_low (p ∷ ps) (suc i) h = places_low ps i (cond_second (is_ok (place_check p.repeater)) (good_places ps) h)

@@ -39,17 +39,17 @@ use Rattle.relays.specs.Problem.{RelayProblem, all_open, value}
 use Rattle.relays.specs.Answers.{IsSolution, IsAnswer}
 use Rattle.relays.specs.MoneyJobs.{money_job, problem_after, new_job_problem}
 use Rattle.relays.proofs.Lawful.{lawful_feasible, feasible_lawful, money_asked}
-use Rattle.relays.proofs.Totals.{capped, total_capped}
+use Rattle.relays.proofs.Totals.{capped_money, total_capped}
 use Rattle.relays.proofs.Few.{few_steps}
 use Rattle.relays.proofs.Prices.{value_low}
 
 -- of two sums below or at the ceiling the order is that of what they came from, where the first did not reach it
-order_below : (a b : ℕ) → a < CEILING → money_no_more (of_cents a) (capped (0 + b)) ≡ true → a ≤ b
-order_below a b low h = let order = leb-true (amount (of_cents a)) (amount (capped (0 + b))) h in omega arith
+order_below : (a b : ℕ) → a < CEILING → money_no_more (of_cents a) (capped_money (0 + b)) ≡ true → a ≤ b
+order_below a b low h = let order = leb-true (amount (of_cents a)) (amount (capped_money (0 + b))) h in omega arith
 
 module _ (s : Sealed) (shut : ℕ → Bool) (q : Request) where
   abbrev R : RelayProblem
-  R = record { contents = sealed_contents s; shut = shut; request = q }
+  R = record { contents = sealed_contents s; is_shut = shut; request = q }
 
   abbrev P : Problem Money
   P = money_asked R
@@ -84,7 +84,7 @@ module _ (s : Sealed) (shut : ℕ → Bool) (q : Request) where
           cheapest = λ other f.
               let lawful = feasible_lawful R other f in
               let total = total_capped R q.start 0 0 other (omega arith) lawful in
-              let order = ap (λ a. money_no_more a (capped (0 + value c other))) (sym exact)
+              let order = ap (λ a. money_no_more a (capped_money (0 + value c other))) (sym exact)
               ∙ ap (money_no_more sum) (sym total)
               ∙ least.lowest other lawful in
               order_below (value c run) (value c other) countable order;
@@ -141,8 +141,8 @@ module _ {Q E : Type 0} (s : Sealed) (q : Request) (queue : QueueGhosts Q Money)
   pub owned_answers : (slots : Q) (rows rows' : OwnedRows Money)
       → IfOk r (λ planned. OwnedReplay (money_job shown empty_book) queue slots q es es' rows rows' planned)
       → IfOk r (λ planned.
-        IsAnswer (new_job_problem s es q) (counts_of queue (owned_memory rows slots)) rows'.run.items planned)
+      IsAnswer (new_job_problem s es q) (counts_of queue (owned_memory rows slots)) rows'.run.items planned)
   owned_answers slots rows rows' o =
       IfOk-weaker r (λ planned. OwnedReplay (money_job shown empty_book) queue slots q es es' rows rows' planned) _
       (λ planned p. replay_answers s empty_book q queue es es'
-        (owned_memory rows slots) (owned_memory rows' p.0) planned shown same p.1) o
+      (owned_memory rows slots) (owned_memory rows' p.0) planned shown same p.1) o

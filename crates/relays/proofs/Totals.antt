@@ -14,8 +14,8 @@ use Rattle.relays.specs.Problem.{RelayProblem, arrival_at, price_at, price, arri
 use Rattle.relays.proofs.Lawful.{sum_front, entered_relay, money_asked, crossing}
 
 -- the cents n, or the ceiling where they are more
-abbrev pub capped : ℕ → Money
-capped n = of_cents (min n CEILING)
+abbrev pub capped_money : ℕ → Money
+capped_money n = of_cents (min n CEILING)
 
 -- what a repeater adds, if one is set
 abbrev pub set_cents : Bool → ℕ → ℕ
@@ -44,7 +44,7 @@ module _ (R : RelayProblem) where
   -- the sum after a step
   after_step : (a cents : ℕ) (mark : Bool) (p : ℕ) → IsMarkAllowed P mark p
       → cond mark (with_repeater P (sum_of (of_cents a) (of_cents cents)) (P.site.repeater p)) (sum_of (of_cents a) (of_cents cents))
-      ≡ capped (a + cents + set_cents mark (relay_price c p))
+      ≡ capped_money (a + cents + set_cents mark (relay_price c p))
   after_step a cents true p k =
       let r = entered_relay (slice_get c.places p) k.repeater k.entered in
       let is : relay_price c p ≡ r.0 = ap relay_cents r.1 in
@@ -54,7 +54,7 @@ module _ (R : RelayProblem) where
   after_step a cents false p k = ap of_cents (omega arith)
 
   pub total_capped : (p l a : ℕ) (run : List Step) → a ≤ CEILING → IsLawful P p l run
-      → total_from P (of_cents a) run ≡ capped (a + value c run)
+      → total_from P (of_cents a) run ≡ capped_money (a + value c run)
   total_capped p l a [] low here = ap of_cents (omega arith)
   total_capped p l a (s ∷ rest) low (w, goes, on) =
       let over = crossing R s w goes.opens in
@@ -64,7 +64,7 @@ module _ (R : RelayProblem) where
       let cents : price c s ≡ e.price = ap price_at over.entered in
       let allowed = subst (λ (x : ℕ). IsMarkAllowed P s.mark x) arrives goes.marks in
       let so_far = a + e.price + set_cents s.mark (relay_price c e.to) in
-      let step : after_way P (of_cents a) s.mark (P.site.way s.way) ≡ capped so_far =
+      let step : after_way P (of_cents a) s.mark (P.site.way s.way) ≡ capped_money so_far =
       ap (after_way P (of_cents a) s.mark) (goes.opens ∙ ap Some over.way) ∙ after_step a e.price s.mark e.to allowed in
       let front = value_front c s rest in
       let relay = ap (λ (x : ℕ). set_cents s.mark (relay_price c x)) here in

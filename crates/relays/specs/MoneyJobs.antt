@@ -23,7 +23,7 @@ money_job c book = record { kind = money; below = money_site c; book = book }
 -- the problem after the listed calls on such a job: the ways of the closing book for them are shut
 abbrev pub problem_after : Contents → (ℕ → Bool) → List (Entry Money) → Request → RelayProblem
 problem_after c book entries q =
-    record { contents = c; shut = after_calls (length c.ways) book (calls_of entries); request = q }
+    record { contents = c; is_shut = after_calls (length c.ways) book (calls_of entries); request = q }
 
 -- both, for a job that is there
 abbrev pub job_state : Job (SurveyView Money) → JobState Money

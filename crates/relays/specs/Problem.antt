@@ -14,17 +14,17 @@ use Rattle.survey.specs.SurveySite.{entry_loss}
 -- what is given: a survey, the set of the ways that are shut, by their numbers, and the start, the end and the bound
 pub record RelayProblem : Type 0 where
   pub contents : Contents
-  pub shut : ℕ → Bool
+  pub is_shut : ℕ → Bool
   pub request : Request
 
 -- with no way shut
 abbrev pub all_open : Contents → Request → RelayProblem
-all_open c q = record { contents = c; shut = λ _. false; request = q }
+all_open c q = record { contents = c; is_shut = λ _. false; request = q }
 
 -- the step s goes over the way w, which was entered, is not shut, and leaves the place p
 pub record IsStepFrom (R : RelayProblem) (p : ℕ) (s : Step) (w : WayEntry) : Type 0 where
   pub entered : slice_get R.contents.ways s.way ≡ Some w
-  pub not_shut : R.shut s.way ≡ false
+  pub not_shut : R.is_shut s.way ≡ false
   pub leaves : w.from ≡ p
 
 -- the steps are a path from the place p to the end: each leaves where the one before it arrived
@@ -61,25 +61,25 @@ relays c [] = []
 relays c (s ∷ rest) = cond s.mark (arrival c s ∷ relays c rest) (relays c rest)
 
 -- a loss more at the front of the first stretch
-abbrev pub extended : ℕ → List (List ℕ) → List (List ℕ)
-extended l [] = (l ∷ []) ∷ []
-extended l (first ∷ others) = (l ∷ first) ∷ others
+abbrev pub with_loss : ℕ → List (List ℕ) → List (List ℕ)
+with_loss l [] = (l ∷ []) ∷ []
+with_loss l (first ∷ others) = (l ∷ first) ∷ others
 
 -- the losses along the path, cut at each repeater: a list for each stretch between two repeaters, or between an
 -- end of the path and the nearest repeater
 abbrev pub stretches : Contents → List Step → List (List ℕ)
 stretches c [] = [] ∷ []
-stretches c (s ∷ rest) = cond s.mark ((loss c s ∷ []) ∷ stretches c rest) (extended (loss c s) (stretches c rest))
+stretches c (s ∷ rest) = cond s.mark ((loss c s ∷ []) ∷ stretches c rest) (with_loss (loss c s) (stretches c rest))
 
 -- the price that was entered for a repeater at a place; none where it was left blank
-abbrev pub entered_at : Option Place → Option ℕ
-entered_at None = None
-entered_at (Some p) = p.repeater
+abbrev pub repeater_at : Option Place → Option ℕ
+repeater_at None = None
+repeater_at (Some p) = p.repeater
 
 -- a repeater can be set at the place p: its price was entered, and p is neither the start nor the end
 pub record IsRelayAllowed (R : RelayProblem) (p : ℕ) : Type 0 where
   pub cents : ℕ
-  pub entered : entered_at (slice_get R.contents.places p) ≡ Some cents
+  pub entered : repeater_at (slice_get R.contents.places p) ≡ Some cents
   pub not_start : p ≢ R.request.start
   pub not_end : p ≢ R.request.end
 
@@ -103,7 +103,7 @@ relay_cents None = 0
 relay_cents (Some cents) = cents
 
 abbrev pub relay_price : Contents → ℕ → ℕ
-relay_price c p = relay_cents (entered_at (slice_get c.places p))
+relay_price c p = relay_cents (repeater_at (slice_get c.places p))
 
 -- what a path costs: the prices of its ways and of its repeaters, as a natural number
 abbrev pub value : Contents → List Step → ℕ

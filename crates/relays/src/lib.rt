@@ -76,7 +76,7 @@ pub fn replay_on_for_money<Q: PriorityQueue<Charge = Money>>(
     memory: &mut Memory<'_, Money, Q>,
 ) -> Result<Planned<Money>, Refusal>
     ensures below { site_below job.new ≡ site_below job.old }
-    ensures book { (n : ℕ) → closed_by job.new n ≡ (job_problem job.old entries.old request).shut n }
+    ensures book { (n : ℕ) → closed_by job.new n ≡ (job_problem job.old entries.old request).is_shut n }
     ensures replayed { ReplayOutcome (job_state job.old) Q.PriorityQueue request entries.old entries.new
         (lent_memory memory.old) (lent_memory memory.new) result }
     ensures answer { IsAnswer (job_problem job.old entries.old request)
@@ -95,7 +95,7 @@ pub fn replay_on_owned_for_money<Q: PriorityQueue<Charge = Money> + Drop>(
     queue: Q,
 ) -> Result<Planned<Money>, Refusal>
     ensures below { site_below job.new ≡ site_below job.old }
-    ensures book { (n : ℕ) → closed_by job.new n ≡ (job_problem job.old entries.old request).shut n }
+    ensures book { (n : ℕ) → closed_by job.new n ≡ (job_problem job.old entries.old request).is_shut n }
     ensures replayed { OwnedReplay (job_state job.old) Q.PriorityQueue queue request entries.old entries.new
         rows.old rows.new result }
     ensures answer { IsAnswer (job_problem job.old entries.old request)

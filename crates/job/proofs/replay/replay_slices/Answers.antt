@@ -23,9 +23,9 @@ returns-clause-replayed g c =
     let book = after_calls (way_count s c.args.job.now) (closed_by c.args.job.now) calls in
     let h : LentMemory g.row.S-Charge.Denot g.row.Q.Denot =
     record { cells = c.args.cells.now; queue = c.args.queue.now; run = c.args.run.now } in
-    let left = c.try_all.new in
+    let listed = c.try_all.new in
     let before : LentMemory g.row.S-Charge.Denot g.row.Q.Denot =
-    record { cells = left.cells; queue = left.queue; run = left.run } in
+    record { cells = listed.cells; queue = listed.queue; run = listed.run } in
     let planned = c.plan_slices.new in
     let h' : LentMemory g.row.S-Charge.Denot g.row.Q.Denot =
     record { cells = planned.cells; queue = planned.queue; run = planned.run } in
