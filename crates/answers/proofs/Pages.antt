@@ -78,7 +78,7 @@ module _ (P : Problem Money) (bounded : IsBounded P.site) (low : P.request.bound
       let line = step_line_short s.way w.from w.to (l + w.loss) s.mark (omega arith) (omega arith) (omega arith) (omega arith) in
       let behind = step_lines_short w.to _ rest on in
       let Short : Option (Way Money) → Type 0 = λ o.
-          length (line_of l s o ++ step_lines P (loss_behind o s.mark l) rest) ≤ length (s ∷ rest) * 128 in
+      length (line_of l s o ++ step_lines P (loss_behind o s.mark l) rest) ≤ length (s ∷ rest) * 128 in
       let all = both_short (step_line s.way w.from w.to (l + w.loss) s.mark) _ 128 (length rest * 128) line behind in
       subst Short (sym opens) (omega (arith, all))
 

@@ -123,14 +123,10 @@ fn replay_in<W: Write, Q: PriorityQueue<Charge = Money>>(
     memory: &mut Memory<'_, Money, Q>,
     out: &mut W,
 ) -> anyhow::Result<()>
-    requires {
-        RowsCover (length (sealed_contents survey.now).places) (calls_of entries.old) last
-            (counts_of Q.PriorityQueue (lent_memory memory.old))
-    }
-    ensures {
-        OnOk result (SomePrinted W.Write out.old out.new
-            (IsReplayText (sealed_contents survey.now) (calls_of entries.old) last))
-    }
+    requires { RowsCover (length (sealed_contents survey.now).places) (calls_of entries.old) last
+        (counts_of Q.PriorityQueue (lent_memory memory.old)) }
+    ensures { OnOk result (SomePrinted W.Write out.old out.new
+        (IsReplayText (sealed_contents survey.now) (calls_of entries.old) last)) }
 {
     let gave = replay_for_money(alloc, survey, entries, last, memory)?;
     print_entries(entries, out)?;
@@ -144,17 +140,22 @@ fn try_script<W: Write>(
     mut script: Script,
     out: &mut W,
 ) -> anyhow::Result<()>
-    ensures {
-        OnOk result (SomePrinted W.Write out.old out.new
-            (IsReplayText (sealed_contents survey.now) (calls_of script.entries.items) script.last))
-    }
+    ensures { OnOk result (SomePrinted W.Write out.old out.new
+        (IsReplayText (sealed_contents survey.now) (calls_of script.entries.items) script.last)) }
 {
     let count = survey.places() * (script.largest_bound() + 1);
     let mut queue_rows = blank_rows(alloc, count)?;
     let mut rows = OwnedRows::blank(alloc, count)?;
     let mut memory = rows.lend(Heap::over(&mut queue_rows));
     let last = script.last;
-    replay_in(alloc, survey, script.entries.as_mut_slice(), last, &mut memory, out)
+    replay_in(
+        alloc,
+        survey,
+        script.entries.as_mut_slice(),
+        last,
+        &mut memory,
+        out,
+    )
 }
 
 /// Reads a survey file and a text of calls, tries the calls one by one on a job over the survey, for money, and writes what each
@@ -177,3 +178,6 @@ pub fn answer<W: Write>(alloc: Global, file: &[u8], text: &[u8], out: &mut W) ->
         Err(trouble) => print_trouble(trouble, out),
     }
 }
+
+#[cfg(test)]
+mod tests;

@@ -19,14 +19,14 @@ returns-in-Ok g c =
     let is = subst (λ r. IfOk r (ScriptOf text)) c.in-Ok.is c.in_ok-script.ensures.script in
     on_ok_weaker c.try_script.result
     (λ printed. desk_printed g.W.Write c.args.out.now c.survey_in.new.out c.try_script.new.out (decode c.args.file.now) s text
-      printed.0 read c.in_ok-survey.ensures.printed
-      (inr (record {
-        calls = calls_of script.entries.items;
-        last = script.last;
-        script = is.text_of;
-        replay = printed.1;
-      }))
-      printed.2)
+    printed.0 read c.in_ok-survey.ensures.printed
+    (inr (record {
+      calls = calls_of script.entries.items;
+      last = script.last;
+      script = is.text_of;
+      replay = printed.1;
+    }))
+    printed.2)
     c.try_script.ensures
 
 pub returns : goal.returns
@@ -37,7 +37,7 @@ returns g c =
     let why = subst (λ r. IfErr r (TroubleOf text)) c.in-Err.is c.in_ok-script.ensures.trouble in
     on_ok_weaker c.print_trouble.result
     (λ printed. desk_printed g.W.Write c.args.out.now c.survey_in.new.out c.print_trouble.new.out (decode c.args.file.now) s text
-      (trouble_line c.in-Err.trouble) read c.in_ok-survey.ensures.printed
-      (inl (record { trouble = c.in-Err.trouble; why = why; line = refl }))
-      printed)
+    (trouble_line c.in-Err.trouble) read c.in_ok-survey.ensures.printed
+    (inl (record { trouble = c.in-Err.trouble; why = why; line = refl }))
+    printed)
     c.print_trouble.ensures

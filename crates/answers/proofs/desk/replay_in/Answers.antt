@@ -22,7 +22,7 @@ print_plan-requires g c =
     let entries = c.args.entries.now in
     let gave = c.in_ok-gave.gave in
     let right = next_right survey g.Q.PriorityQueue last entries c.replay_for_money.new.entries (lent_memory memory)
-        (lent_memory memory') gave c.requires c.in_ok-gave.ensures.replayed c.replay_for_money.ensures.same.step_count in
+    (lent_memory memory') gave c.requires c.in_ok-gave.ensures.replayed c.replay_for_money.ensures.same.step_count in
     plan_short survey (book_for (length s.ways) (calls_of entries)) last memory'.run.now gave right
 
 pub returns : goal.returns
@@ -37,7 +37,7 @@ returns g c =
     let gave = c.in_ok-gave.gave in
     let outcome = c.in_ok-gave.ensures.replayed in
     let right = next_right survey g.Q.PriorityQueue last entries entries' (lent_memory memory) (lent_memory memory') gave
-        c.requires outcome c.replay_for_money.ensures.same.step_count in
+    c.requires outcome c.replay_for_money.ensures.same.step_count in
     on_ok_weaker c.print_plan.result
     (λ printed. (
       entry_lines entries' ++ printed.0,
