@@ -1,4 +1,5 @@
-// Planning with the heap behind a C interface, to be timed against another planner: from the first place of a square grid.
+// Planning with the heap behind a C interface, to be timed against another planner: from the first place of a
+// square grid.
 use grid::grid::FloorGrid;
 use planner::plan::plan;
 use search::owned::OwnedRows;
@@ -28,9 +29,9 @@ fn plan_over(alloc: Global, site: &FloorGrid<Money>, request: Request, plans: u3
     total
 }
 
-/// Plans so many times over from the first place of a square grid to the place `end`, on rows that are taken for it, and
-/// gives the cents of the total. It is the largest number where the grid or the plan is refused or memory is wanting,
-/// since C has no Option.
+/// Plans so many times over from the first place of a square grid to the place `end`, on rows that are taken for
+/// it, and gives the cents of the total. It is the largest number where the grid or the plan is refused or memory
+/// is wanting, since C has no Option.
 #[unsafe(no_mangle)]
 pub extern "C" fn plan_on_square(
     alloc: Global,
