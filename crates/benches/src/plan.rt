@@ -1,35 +1,40 @@
-// Planning with the heap behind a C interface, to be timed against another planner: from the first place of a square grid.
-use subject::money::Money;
+// Planning with the heap behind a C interface, to be timed against another planner: from the first place of a
+// square grid.
 use grid::grid::FloorGrid;
-use tree_queue::heap::Binary;
-use search::owned::{Counts, Filling, OwnedRows};
 use planner::plan::plan;
-use subject::run::Request;
-use subject::site::Site;
+use search::owned::OwnedRows;
 use std::alloc::Global;
+use subject::money::Money;
+use subject::run::{MOST_BOUND, Request};
+use subject::site::{MOST_PLACES, Site};
+use tree_queue::heap::Heap;
+use tree_queue::row::blank_rows;
 
-// The total of a plan, made over and over on the same rows; none where it is refused.
-fn plan_over(
-    site: &FloorGrid<Money>,
-    request: Request,
-    plans: u32,
-    rows: &mut OwnedRows<Money>,
-) -> Option<u64> {
+// The cents of a plan's total, made over and over on the same rows; none where it is refused or memory is wanting.
+fn plan_over(alloc: Global, site: &FloorGrid<Money>, request: Request, plans: u32) -> Option<u64> {
+    let places = site.places();
+    if places > MOST_PLACES || request.bound > MOST_BOUND {
+        return None;
+    }
+    let row_count = places * (request.bound + 1);
+    let mut queue_rows = blank_rows(alloc, row_count).ok()?;
+    let mut rows = OwnedRows::blank(alloc, row_count).ok()?;
+    let mut memory = rows.lend(Heap::over(&mut queue_rows));
     let mut total = None;
-    let mut memory = rows.lend::<Binary>();
     for _ in 0..plans {
         total = plan(site, request, &mut memory)
-            .map(|planned| planned.total.counted())
+            .map(|planned| planned.total.amount())
             .ok();
     }
     total
 }
 
-// Plans so many times over from the first place of a square grid to the place `end`, on rows that are taken for it, and
-// gives the cents of the total; the largest number where the plan is refused or memory is wanting, since C has no Option.
+/// Plans so many times over from the first place of a square grid to the place `end`, on rows that are taken for
+/// it, and gives the cents of the total. It is the largest number where the grid or the plan is refused or memory
+/// is wanting, since C has no Option.
 #[unsafe(no_mangle)]
 pub extern "C" fn plan_on_square(
-    memory: Global,
+    alloc: Global,
     side: usize,
     way_cents: u64,
     loss: u16,
@@ -39,18 +44,10 @@ pub extern "C" fn plan_on_square(
     plans: u32,
 ) -> u64 {
     let way = Money { cents: way_cents };
-    let repeater = Some(Money {
+    let repeater = Money {
         cents: repeater_cents,
-    });
-    let Ok(site) = FloorGrid::new(side, side, way, loss, repeater) else {
-        return u64::MAX;
     };
-    let places = site.places();
-    if places > 4096 || bound > 1000 {
-        return u64::MAX;
-    }
-    let many = places * (bound + 1);
-    let Ok(mut rows) = OwnedRows::filled(memory, Counts::each(many), Filling::used()) else {
+    let Ok(site) = FloorGrid::new(side, side, way, loss, Some(repeater)) else {
         return u64::MAX;
     };
     let request = Request {
@@ -58,5 +55,5 @@ pub extern "C" fn plan_on_square(
         end,
         bound,
     };
-    plan_over(&site, request, plans, &mut rows).unwrap_or(u64::MAX)
+    plan_over(alloc, &site, request, plans).unwrap_or(u64::MAX)
 }

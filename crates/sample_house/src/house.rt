@@ -51,8 +51,8 @@ fn refused(refusal: Refusal) -> anyhow::Error {
 
 /// A house of four places as a sealed survey, with the price of a repeater at the place 1 in cents, or a blank there.
 ///
-/// The places 0, 1 and 3 are in a line, and the place 2 is beside 1. It is an error where memory is wanting, or where the
-/// price is over 1,000,000 cents.
+/// The places 0, 1 and 3 are in a line, and the place 2 is beside 1. It is an error where memory is wanting, or
+/// where the price is over 1,000,000 cents.
 pub fn survey_of_house(alloc: Global, first: Option<u32>) -> anyhow::Result<Sealed>
     ensures { IfOk result (λ s. sealed_contents s ≡ house_with first) }
 {
