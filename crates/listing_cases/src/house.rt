@@ -1,11 +1,11 @@
 // Small houses, and what is asked of them.
 use crate::random::Random;
-use subject::run::Request;
 use std::alloc::{AllocError, Global};
+use subject::run::Request;
 use survey::draft::Draft;
 use survey::entry::WayEntry;
 
-// A request, and two ways to close (of which there may be none).
+/// A request, and two way numbers to close, which may be no ways of the house.
 #[derive(Clone, Copy)]
 pub struct Question {
     pub request: Request,
@@ -21,7 +21,7 @@ fn repeater(random: &mut Random) -> Option<u32> {
     }
 }
 
-// A way between two of the places, which may be refused where they are the same.
+// A way between two of the places, which a draft refuses where they are the same.
 fn way(random: &mut Random, places: u64) -> WayEntry {
     WayEntry {
         from: u16::try_from(random.below(places)).unwrap_or(0),
@@ -33,9 +33,9 @@ fn way(random: &mut Random, places: u64) -> WayEntry {
     }
 }
 
-// A house of 0 to 5 places and up to 8 ways.
-pub fn make_draft(heap: Global, random: &mut Random) -> Result<Draft, AllocError> {
-    let mut draft = Draft::new(heap)?;
+/// A house of 0 to 5 places and up to 8 ways.
+pub fn make_draft(alloc: Global, random: &mut Random) -> Result<Draft, AllocError> {
+    let mut draft = Draft::new(alloc)?;
     let places = random.below(6);
     for _ in 0..places {
         let _ = draft.add_place(repeater(random));
@@ -47,7 +47,7 @@ pub fn make_draft(heap: Global, random: &mut Random) -> Result<Draft, AllocError
     Ok(draft)
 }
 
-// From one place to another within a small bound, with up to two ways closed.
+/// From one place to another within a small bound, with up to two ways closed.
 pub fn make_question(random: &mut Random, places: usize) -> Question {
     let start = random.below(places as u64) as usize;
     let end = random.below(places as u64) as usize;

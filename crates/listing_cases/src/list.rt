@@ -2,10 +2,11 @@
 use crate::house::Question;
 use std::alloc::{AllocError, Global};
 use std::collections::BTreeSet;
+use subject::run::MOST_BOUND;
 use survey::entry::WayEntry;
 use survey::sealed::Sealed;
 
-// How many runs there are, and the least figures of them.
+/// How many runs there are, and the least figures of them.
 #[derive(Clone, Copy)]
 pub struct Found {
     pub runs: u64,
@@ -13,7 +14,7 @@ pub struct Found {
     pub grade: Option<u64>,
 }
 
-// Where a run stands, what it has lost since the last repeater, and what it has come to.
+// Where a run is, what it has lost since the last repeater, and what it has come to.
 #[derive(Clone, Copy)]
 struct Here {
     place: usize,
@@ -22,6 +23,7 @@ struct Here {
     grade: u64,
 }
 
+// The lower of two figures, of which the first may be none.
 fn lower(old: Option<u64>, new: u64) -> Option<u64> {
     Some(old.map_or(new, |best| best.min(new)))
 }
@@ -43,8 +45,8 @@ impl Listing<'_> {
         Some(price as u64)
     }
 
-    // Where a way leads from where the run stands, without a mark.
-    fn over(&self, here: Here, number: usize, way: &WayEntry) -> Option<Here> {
+    // Where a way leads from where the run is, without a mark.
+    fn after_way(&self, here: Here, number: usize, way: &WayEntry) -> Option<Here> {
         let per_hundred = match way.letter {
             'U' => 220,
             'S' => 90,
@@ -65,13 +67,13 @@ impl Listing<'_> {
         })
     }
 
-    // Lists the runs that go on from here, in at most `depth` steps; `left` has the places, each with its loss, that the run has
-    // left so far.
+    // Lists the runs that go on from here, in at most `depth` steps. The run has come by the places `behind`, each with
+    // its loss there.
     fn walk(
         &self,
         here: Here,
         depth: usize,
-        left: &mut BTreeSet<(usize, usize)>,
+        behind: &mut BTreeSet<(usize, usize)>,
         found: &mut Found,
     ) -> Result<(), AllocError> {
         if here.place == self.asked.request.end {
@@ -79,36 +81,36 @@ impl Listing<'_> {
             found.money = lower(found.money, here.cents);
             found.grade = lower(found.grade, here.grade);
         }
-        if depth == 0 || !left.insert((here.place, here.loss))? {
+        if depth == 0 || !behind.insert((here.place, here.loss))? {
             return Ok(());
         }
         for (number, way) in self.survey.all_ways().iter().enumerate() {
-            if let Some(there) = self.over(here, number, way) {
-                self.walk(there, depth - 1, left, found)?;
+            if let Some(there) = self.after_way(here, number, way) {
+                self.walk(there, depth - 1, behind, found)?;
                 if let Some(price) = self.mark_price(there.place) {
                     let cleared = Here {
                         loss: 0,
                         cents: there.cents.saturating_add(price),
                         ..there
                     };
-                    self.walk(cleared, depth - 1, left, found)?;
+                    self.walk(cleared, depth - 1, behind, found)?;
                 }
             }
         }
-        left.remove(&(here.place, here.loss));
+        behind.remove(&(here.place, here.loss));
         Ok(())
     }
 }
 
-// Lists the runs of a question. Where the start is no place there is none.
-pub fn list_runs(heap: Global, survey: &Sealed, asked: &Question) -> Result<Found, AllocError> {
+/// Lists the runs of a question. Where the start is no place there is none.
+pub fn list_runs(alloc: Global, survey: &Sealed, asked: &Question) -> Result<Found, AllocError> {
     let mut found = Found {
         runs: 0,
         money: None,
         grade: None,
     };
-    let cells = survey.places() * 1001;
-    let mut left = BTreeSet::new(heap);
+    let cells = survey.places() * (MOST_BOUND + 1);
+    let mut behind = BTreeSet::new(alloc);
     if asked.request.start < survey.places() {
         let here = Here {
             place: asked.request.start,
@@ -116,7 +118,7 @@ pub fn list_runs(heap: Global, survey: &Sealed, asked: &Question) -> Result<Foun
             cents: 0,
             grade: 0,
         };
-        Listing { survey, asked }.walk(here, cells, &mut left, &mut found)?;
+        Listing { survey, asked }.walk(here, cells, &mut behind, &mut found)?;
     }
     Ok(found)
 }

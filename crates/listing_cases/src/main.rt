@@ -1,116 +1,89 @@
-// Small houses against a listing of all runs. Thousands of houses are made from fixed seeds; for each, every lawful run that never
-// leaves a place twice with the same loss is listed by plain recursion, which shares no code with the planner, and the least total
-// is compared with what planning gives: for money and for disturbance, with the heap and with the ordered row, over a job with
-// some ways closed, on rows that the plan before has left dirty.
+// Small houses against a listing of all runs. Thousands of houses are made from fixed seeds; for each, every lawful run
+// that never leaves a place twice with the same loss is listed by plain recursion, which shares no code with the
+// planner, and the least total is compared with what planning gives: for money and for disturbance, with a queue of
+// each kind, over a job with some ways closed, on rows that the plan before has left dirty.
 #![tactic(auto)]
 
 mod house;
+mod kind;
 mod list;
-mod memory;
 mod random;
+mod tally;
 
 use crate::house::{Question, make_draft, make_question};
-use crate::list::{Found, list_runs};
-use crate::memory::{ROWS, plan_both};
+use crate::kind::{KINDS, Rows};
+use crate::list::list_runs;
 use crate::random::Random;
+use crate::tally::Tally;
+use job::job::Job;
 use subject::disturbance::Disturbance;
 use subject::money::Money;
-use job::job::Job;
-use search::owned::{Counts, Filling, OwnedRows};
 use subject::site::Site;
-use survey::view::DisturbanceView;
-use survey::view::MoneyView;
+use survey::view::{DisturbanceView, MoneyView};
 
 // How many houses there are.
 const HOUSES: u64 = 4000;
 
-#[derive(Clone, Copy)]
-struct Tally {
-    houses: u64,
-    runs: u64,
-    none: u64,
-    plans: u64,
-    differ: u64,
-}
+// Enough rows for 5 places and bounds up to 7.
+const ROW_COUNT: usize = 40;
 
-// Counts two plans of one kind, which should both give what the listing gave.
-fn count(tally: &mut Tally, listed: Option<u64>, planned: [Option<u64>; 2]) {
-    for gave in planned {
-        tally.plans = tally.plans.saturating_add(1);
-        if gave != listed {
-            tally.differ = tally.differ.saturating_add(1);
-        }
-    }
-}
-
-// Plans over a job with some ways closed: the figure of the total with the heap, and of that with the ordered row.
-fn planned<S: Site + Drop, F: Fn(S::Charge) -> u64>(
+// Plans over a job with some ways closed: the figure of the total with a queue of each kind, or none.
+fn plan_figures<S: Site + Drop, F: Fn(S::Charge) -> u64>(
     rt: &HostRuntime,
     site: S,
     asked: &Question,
-    rows: &mut OwnedRows<S::Charge>,
+    rows: &mut Rows<S::Charge>,
     figure: F,
-) -> anyhow::Result<[Option<u64>; 2]>
+) -> anyhow::Result<Vec<Option<u64>>>
     requires { F.IsAlwaysCallable figure }
 {
-    let mut work = Job::new(rt.alloc(), site)?;
+    let mut job = Job::new(rt.alloc(), site)?;
     for way in asked.closed {
-        let _ = work.close(way);
+        let _ = job.close(way);
     }
-    let (heap, row) = plan_both(&work, asked.request, rows);
-    Ok([heap.map(&figure), row.map(&figure)])
+    let mut figures = Vec::new(rt.alloc());
+    for kind in KINDS {
+        let planned = kind.plan(&job, asked.request, rows);
+        figures.push(planned.map(|planned| figure(planned.total)).ok())?;
+    }
+    Ok(figures)
+}
+
+// The house of a seed: what is listed, and what is planned for money and for disturbance.
+fn try_house(
+    rt: &HostRuntime,
+    seed: u64,
+    for_money: &mut Rows<Money>,
+    for_grade: &mut Rows<Disturbance>,
+    tally: &mut Tally,
+) -> anyhow::Result<()> {
+    let mut random = Random::new(seed);
+    let survey = make_draft(rt.alloc(), &mut random)?.seal();
+    let asked = make_question(&mut random, survey.places());
+    let found = list_runs(rt.alloc(), &survey, &asked)?;
+    tally.count_house(found.runs);
+    let money = MoneyView::over(&survey);
+    let cents = plan_figures(rt, money, &asked, for_money, |total: Money| total.amount())?;
+    tally.count_plans(found.money, &cents);
+    let disturbance = DisturbanceView::over(&survey);
+    let grades = plan_figures(rt, disturbance, &asked, for_grade, |total: Disturbance| {
+        u64::from(total.grade)
+    })?;
+    tally.count_plans(found.grade, &grades);
+    Ok(())
+}
+
+fn run(rt: &HostRuntime) -> anyhow::Result<()> {
+    let mut for_money = Rows::new(rt.alloc(), ROW_COUNT)?;
+    let mut for_grade = Rows::new(rt.alloc(), ROW_COUNT)?;
+    let mut tally = Tally::new();
+    for seed in 0..HOUSES {
+        try_house(rt, seed, &mut for_money, &mut for_grade, &mut tally)?;
+    }
+    println!(rt; "{tally}")?;
+    Ok(())
 }
 
 fn main(rt: HostRuntime) -> anyhow::Result<()> {
-    let mut for_money = OwnedRows::filled(rt.alloc(), Counts::each(ROWS), Filling::used())?;
-    let mut for_grade = OwnedRows::filled(rt.alloc(), Counts::each(ROWS), Filling::used())?;
-    let mut tally = Tally {
-        houses: 0,
-        runs: 0,
-        none: 0,
-        plans: 0,
-        differ: 0,
-    };
-    for seed in 0..HOUSES {
-        let mut random = Random::new(seed);
-        let survey = make_draft(rt.alloc(), &mut random)?.seal();
-        let asked = make_question(&mut random, survey.places());
-        let found: Found = list_runs(rt.alloc(), &survey, &asked)?;
-        tally.houses = tally.houses.saturating_add(1);
-        tally.runs = tally.runs.saturating_add(found.runs);
-        if found.runs == 0 {
-            tally.none = tally.none.saturating_add(1);
-        }
-        count(
-            &mut tally,
-            found.money,
-            planned(
-                &rt,
-                MoneyView::over(&survey),
-                &asked,
-                &mut for_money,
-                |total: Money| total.counted(),
-            )?,
-        );
-        count(
-            &mut tally,
-            found.grade,
-            planned(
-                &rt,
-                DisturbanceView::over(&survey),
-                &asked,
-                &mut for_grade,
-                |total: Disturbance| u64::from(total.grade),
-            )?,
-        );
-    }
-    let houses = tally.houses;
-    let runs = tally.runs;
-    let none = tally.none;
-    let plans = tally.plans;
-    let differ = tally.differ;
-    println!(rt;
-        "{houses} houses with {runs} runs, {none} of them with none; {plans} plans compared, {differ} differ"
-    )?;
-    Ok(())
+    run(&rt)
 }

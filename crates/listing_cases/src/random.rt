@@ -1,12 +1,13 @@
 ghost use Rattle.std.specs.Prelude.{◌-◌, ◌≤◌};
 
-// Numbers that are the same on every machine: a linear congruential generator.
+/// Numbers that are the same on every machine: a linear congruential generator.
 #[derive(Clone, Copy)]
 pub struct Random {
     state: u64,
 }
 
 impl Random {
+    /// The numbers of a seed.
     pub fn new(seed: u64) -> Random {
         Random {
             state: seed
@@ -15,7 +16,7 @@ impl Random {
         }
     }
 
-    // A number below a limit, or 0 where the limit is 0.
+    /// A number below a limit, or 0 where the limit is 0.
     pub fn below(&mut self, limit: u64) -> u64
         ensures { result ≤ limit - 1 }
     {

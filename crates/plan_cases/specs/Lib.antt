@@ -1,2 +1,4 @@
+pub mod Counts
+pub mod Figures
 pub mod Plans
-pub mod Gave
+pub mod Used

@@ -1,25 +1,26 @@
-// One case: what is planned, what it should give, and what it gave with each queue.
-ghost use Rattle.std.specs.Prelude.{◌≡◌, ◌+◌, min, if◌then◌else◌};
+// One case: what is planned, what it should give, and what it gave with a queue of each kind.
+ghost use Rattle.std.specs.Prelude.{◌≡◌, if◌then◌else◌};
+ghost use Rattle.plan_cases.specs.Counts.{count_after};
+ghost use Rattle.sample_house.specs.House.{across};
 
-use crate::gave::of_money;
-use crate::memory::with_queue;
-use subject::money::Money;
-use tree_queue::heap::Binary;
-use tree_queue::ordered_row::Chain;
-use search::owned::{Counts, Filling, OwnedRows};
+use crate::figure::{Figure, figure_of};
+use crate::kind::{Asked, KINDS, Kind};
+use crate::rows::Rows;
+use search::check::RowCounts;
+use std::{fmt, io};
 use subject::refusal::Refusal;
 use subject::run::Request;
 use subject::site::Site;
-use std::{fmt, io};
 
+/// A case: what is planned, and the figure or the refusal that it should give.
 #[derive(Clone, Copy)]
 pub struct Case<'a> {
     pub name: &'a str,
-    pub request: Request,
+    pub asked: Asked,
     pub expected: Result<u64, Refusal>,
 }
 
-// How many cases there were, and how many gave with both queues what they should.
+/// How many cases there were, and how many gave with every queue what they should.
 #[derive(Clone, Copy)]
 pub struct Tally {
     pub cases: u64,
@@ -29,8 +30,8 @@ pub struct Tally {
 impl Tally {
     // One more case.
     fn count(&mut self, right: bool)
-        ensures cases { self.new.cases ≡ min (self.old.cases + 1) 18446744073709551615 }
-        ensures right { self.new.right ≡ (if right then min (self.old.right + 1) 18446744073709551615 else self.old.right) }
+        ensures cases { self.new.cases ≡ count_after self.old.cases }
+        ensures right { self.new.right ≡ (if right then count_after self.old.right else self.old.right) }
     {
         self.cases = self.cases.saturating_add(1);
         if right {
@@ -39,11 +40,9 @@ impl Tally {
     }
 }
 
-// A run for the house: from the place 0 to the place 3.
+/// A run across the house: from the place 0 to the place 3.
 pub fn across(bound: usize) -> Request
-    ensures start { result.start ≡ 0 }
-    ensures end { result.end ≡ 3 }
-    ensures bound { result.bound ≡ bound }
+    ensures { result ≡ across bound }
 {
     Request {
         start: 0,
@@ -52,7 +51,7 @@ pub fn across(bound: usize) -> Request
     }
 }
 
-// What a plan gave, as it is printed.
+// A figure or a refusal, as it is printed.
 #[derive(Clone, Copy)]
 struct Shown(Result<u64, Refusal>);
 
@@ -65,7 +64,14 @@ impl fmt::Display for Shown {
     }
 }
 
-// Plays cases, prints what each gave, and counts them.
+// What a case gave with a queue of a kind.
+#[derive(Clone, Copy)]
+struct Gave {
+    kind: Kind,
+    figure: Result<u64, Refusal>,
+}
+
+/// Plays cases, prints what each gave, and counts them.
 #[derive(Drop)]
 pub struct Cases<'a> {
     pub rt: &'a HostRuntime,
@@ -74,18 +80,17 @@ pub struct Cases<'a> {
 
 impl Cases<'_> {
     // Prints what a case gave with each queue, and counts it.
-    pub fn tell(
-        &mut self,
-        case: Case,
-        heap: Result<u64, Refusal>,
-        row: Result<u64, Refusal>,
-    ) -> io::Result<()> {
-        let right = heap == case.expected && row == case.expected;
+    fn tell(&mut self, case: Case, gave: &[Gave]) -> io::Result<()> {
+        let right = gave.iter().all(|gave| gave.figure == case.expected);
         self.tally.count(right);
         let name = case.name;
-        let heap = Shown(heap);
-        let row = Shown(row);
-        print!(self.rt; "{name}: heap {heap}, ordered row {row}")?;
+        print!(self.rt; "{name}")?;
+        let mut separator = ":";
+        for Gave { kind, figure } in gave {
+            let figure = Shown(*figure);
+            print!(self.rt; "{separator} {kind} {figure}")?;
+            separator = ",";
+        }
         if right {
             return println!(self.rt; "");
         }
@@ -93,18 +98,20 @@ impl Cases<'_> {
         println!(self.rt; ", AND NOT {expected}")
     }
 
-    // Plans for money with each queue: with a heap on rows that hold anything, and then with an ordered row on the rows as
-    // that plan left them.
-    pub fn play<S: Site<Charge = Money>>(
-        &mut self,
-        case: Case,
-        site: &S,
-        counts: Counts,
-    ) -> anyhow::Result<()> {
-        let mut rows = OwnedRows::filled(self.rt.alloc(), counts, Filling::used())?;
-        let heap = of_money(with_queue::<S, Binary>(site, case.request, &mut rows));
-        let row = of_money(with_queue::<S, Chain>(site, case.request, &mut rows));
-        self.tell(case, heap, row)?;
+    /// Plans with a queue of each kind in turn: with the first over used rows, and with the next over the rows as
+    /// the plan before has left them.
+    pub fn play<S: Site>(&mut self, case: Case, site: &S, counts: RowCounts) -> anyhow::Result<()>
+    where
+        S::Charge: Figure,
+    {
+        let alloc = self.rt.alloc();
+        let mut rows = Rows::used(alloc, counts)?;
+        let mut gave = Vec::new(alloc);
+        for kind in KINDS {
+            let figure = figure_of(kind.plan(site, case.asked, &mut rows));
+            gave.push(Gave { kind, figure })?;
+        }
+        self.tell(case, &gave)?;
         Ok(())
     }
 }

@@ -1,14 +1,15 @@
 // Plans on jobs over the house, and on jobs over jobs.
 use crate::case::{Case, Cases, across};
+use crate::kind::Asked;
+use crate::rows::each;
 use anyhow::anyhow;
-use sample_house::house;
 use job::job::Job;
-use search::owned::Counts;
+use sample_house::house::survey_of_house;
 use subject::refusal::Refusal;
 use survey::view::MoneyView;
 
-// A closing or a reopening that has to be accepted.
-pub fn done(changed: Result<(), Refusal>) -> anyhow::Result<()> {
+/// A closing or a reopening that has to be accepted.
+pub fn accepted(changed: Result<(), Refusal>) -> anyhow::Result<()> {
     changed.map_err(|_| anyhow!("a closing or a reopening was refused"))
 }
 
@@ -16,55 +17,34 @@ pub fn done(changed: Result<(), Refusal>) -> anyhow::Result<()> {
 fn within_35(name: &str, total: u64) -> Case<'_> {
     Case {
         name,
-        request: across(35),
+        asked: Asked::only(across(35)),
         expected: Ok(total),
     }
 }
 
-// The way 2 closed on a job, and reopened.
+/// The way 2 closed on a job, and reopened.
 pub fn closing(cases: &mut Cases) -> anyhow::Result<()> {
-    let survey = house(cases.rt.alloc(), Some(2000))?;
+    let survey = survey_of_house(cases.rt.alloc(), Some(2000))?;
     let mut job = Job::new(cases.rt.alloc(), MoneyView::over(&survey))?;
-    cases.play(
-        within_35("a new job, bound 35", 1500),
-        &job,
-        Counts::each(144),
-    )?;
-    done(job.close(2))?;
-    cases.play(
-        within_35("way 2 closed, bound 35", 2600),
-        &job,
-        Counts::each(144),
-    )?;
-    done(job.reopen(2))?;
-    cases.play(
-        within_35("way 2 reopened, bound 35", 1500),
-        &job,
-        Counts::each(144),
-    )
+    cases.play(within_35("a new job, bound 35", 1500), &job, each(144))?;
+    accepted(job.close(2))?;
+    cases.play(within_35("way 2 closed, bound 35", 2600), &job, each(144))?;
+    accepted(job.reopen(2))?;
+    cases.play(within_35("way 2 reopened, bound 35", 1500), &job, each(144))
 }
 
-// The way 2 closed on a job and on a job over it: to reopen it above leaves it shut below.
+/// The way 2 closed on a job and on a job over it: to reopen it above leaves it shut below.
 pub fn closing_twice(cases: &mut Cases) -> anyhow::Result<()> {
-    let survey = house(cases.rt.alloc(), Some(2000))?;
+    let survey = survey_of_house(cases.rt.alloc(), Some(2000))?;
     let mut below = Job::new(cases.rt.alloc(), MoneyView::over(&survey))?;
-    done(below.close(2))?;
+    accepted(below.close(2))?;
     let mut above = Job::new(cases.rt.alloc(), below)?;
-    cases.play(
-        within_35("way 2 closed below, bound 35", 2600),
-        &above,
-        Counts::each(144),
-    )?;
-    done(above.close(2))?;
-    cases.play(
-        within_35("way 2 closed below and above, bound 35", 2600),
-        &above,
-        Counts::each(144),
-    )?;
-    done(above.reopen(2))?;
-    cases.play(
-        within_35("way 2 reopened above, bound 35", 2600),
-        &above,
-        Counts::each(144),
-    )
+    let once = within_35("way 2 closed below, bound 35", 2600);
+    cases.play(once, &above, each(144))?;
+    accepted(above.close(2))?;
+    let twice = within_35("way 2 closed below and above, bound 35", 2600);
+    cases.play(twice, &above, each(144))?;
+    accepted(above.reopen(2))?;
+    let reopened = within_35("way 2 reopened above, bound 35", 2600);
+    cases.play(reopened, &above, each(144))
 }

@@ -1,14 +1,16 @@
-// Plans on a house of four places, and on floor grids, with each priority queue, and prints what each case gave and,
+// Plans on a house of four places, and on floor grids, with a queue of each kind, and prints what each case gave and,
 // where that is not what it should be, what it should have given.
 #![tactic(auto)]
 
 use crate::case::{Cases, Tally};
+use crate::kind::ALL_QUEUES;
 
 mod case;
+mod few;
+mod figure;
 mod floor;
-mod gave;
 mod jobs;
-mod memory;
+mod kind;
 mod plain;
 mod rows;
 
@@ -19,15 +21,18 @@ fn run(rt: &HostRuntime) -> anyhow::Result<()> {
     plain::nowhere(&mut cases)?;
     plain::repeaters(&mut cases)?;
     plain::disturbance(&mut cases)?;
-    rows::few_rows(&mut cases)?;
-    rows::used_rows(&mut cases)?;
+    few::few_rows(&mut cases)?;
+    few::used_rows(&mut cases)?;
     jobs::closing(&mut cases)?;
     jobs::closing_twice(&mut cases)?;
     floor::on_two_jobs(&mut cases)?;
     floor::on_one_job(&mut cases)?;
     floor::corner_to_corner(&mut cases)?;
-    let Tally { cases: many, right } = cases.tally;
-    println!(rt; "{many} cases, each with both queues: {right} as expected")?;
+    let Tally {
+        cases: count,
+        right,
+    } = cases.tally;
+    println!(rt; "{count} cases, each with {ALL_QUEUES}: {right} as expected")?;
     Ok(())
 }
 

@@ -1,15 +1,11 @@
 // Plans on the house with all ways open.
 use crate::case::{Case, Cases, across};
-use crate::gave::of_disturbance;
-use crate::memory::with_queue;
-use sample_house::house;
-use tree_queue::heap::Binary;
-use tree_queue::ordered_row::Chain;
-use search::owned::{Counts, Filling, OwnedRows};
+use crate::kind::Asked;
+use crate::rows::each;
+use sample_house::house::survey_of_house;
 use subject::refusal::Refusal;
 use subject::run::Request;
-use survey::view::DisturbanceView;
-use survey::view::MoneyView;
+use survey::view::{DisturbanceView, MoneyView};
 
 // A run across the house within a bound, with a price of a repeater at the place 1, or none.
 fn at_bound(
@@ -21,14 +17,14 @@ fn at_bound(
 ) -> anyhow::Result<()> {
     let case = Case {
         name,
-        request: across(bound),
+        asked: Asked::only(across(bound)),
         expected,
     };
-    let survey = house(cases.rt.alloc(), repeater)?;
-    cases.play(case, &MoneyView::over(&survey), Counts::each(180))
+    let survey = survey_of_house(cases.rt.alloc(), repeater)?;
+    cases.play(case, &MoneyView::over(&survey), each(180))
 }
 
-// The lower the bound, the more repeaters are needed, until none helps.
+/// The lower the bound, the more repeaters are needed, until none helps.
 pub fn bounds(cases: &mut Cases) -> anyhow::Result<()> {
     let priced = Some(2000);
     at_bound(cases, "bound 44", priced, 44, Ok(600))?;
@@ -39,7 +35,7 @@ pub fn bounds(cases: &mut Cases) -> anyhow::Result<()> {
     at_bound(cases, "bound 21", priced, 21, Err(Refusal::NoRun))
 }
 
-// A blank at the place 1, where no repeater can stand, and a price of 0, where one stands for nothing.
+/// A blank at the place 1, where no repeater can be hung, and a price of 0, where one is hung for nothing.
 pub fn repeaters(cases: &mut Cases) -> anyhow::Result<()> {
     let blank = "place 1 blank, bound 32";
     at_bound(cases, blank, None, 32, Err(Refusal::NoRun))?;
@@ -47,33 +43,29 @@ pub fn repeaters(cases: &mut Cases) -> anyhow::Result<()> {
     at_bound(cases, free, Some(0), 35, Ok(600))
 }
 
-// From a place to itself it is no step, for nothing.
+/// From a place to itself it is no step, for nothing.
 pub fn nowhere(cases: &mut Cases) -> anyhow::Result<()> {
+    let request = Request {
+        start: 0,
+        end: 0,
+        bound: 35,
+    };
     let case = Case {
         name: "from 0 to 0",
-        request: Request {
-            start: 0,
-            end: 0,
-            bound: 35,
-        },
+        asked: Asked::only(request),
         expected: Ok(0),
     };
-    let survey = house(cases.rt.alloc(), Some(2000))?;
-    cases.play(case, &MoneyView::over(&survey), Counts::each(144))
+    let survey = survey_of_house(cases.rt.alloc(), Some(2000))?;
+    cases.play(case, &MoneyView::over(&survey), each(144))
 }
 
-// The disturbance of a run is its greatest grade.
+/// The disturbance of a run is its greatest grade.
 pub fn disturbance(cases: &mut Cases) -> anyhow::Result<()> {
     let case = Case {
         name: "disturbance, bound 35",
-        request: across(35),
+        asked: Asked::only(across(35)),
         expected: Ok(1),
     };
-    let survey = house(cases.rt.alloc(), Some(2000))?;
-    let site = DisturbanceView::over(&survey);
-    let mut rows = OwnedRows::filled(cases.rt.alloc(), Counts::each(144), Filling::used())?;
-    let heap = of_disturbance(with_queue::<_, Binary>(&site, case.request, &mut rows));
-    let row = of_disturbance(with_queue::<_, Chain>(&site, case.request, &mut rows));
-    cases.tell(case, heap, row)?;
-    Ok(())
+    let survey = survey_of_house(cases.rt.alloc(), Some(2000))?;
+    cases.play(case, &DisturbanceView::over(&survey), each(144))
 }
