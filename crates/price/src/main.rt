@@ -12,8 +12,8 @@ use std::alloc::{AllocError, Global};
 use subject::refusal::{Fault, Refusal};
 use subject::run::{Request, Step};
 
-// The most bytes that are read: the request, 65,535 steps of three bytes with their number, the longest survey file, and
-// one byte more, so that a byte behind such a file is met.
+// The most bytes that are read: the request, 65,535 steps of three bytes with their number, the longest survey file,
+// and one byte more, so that a byte behind such a file is met.
 const MOST: usize = 213774;
 
 // What is in the input: the request, the bytes of the steps, and the survey file.
