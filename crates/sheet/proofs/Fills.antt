@@ -1,5 +1,5 @@
--- A buffer is filled by one read behind the other: what a read gave is behind what came before, and what is behind that is as
--- it was. By what a write to the part of a list from some place on does to its front and to its end.
+-- A buffer is filled by one read behind the other: what a read gave is behind what came before, and what is behind that is
+-- as it was. By what a write to the part of a list from some place on does to its front and to its end.
 use Rattle.std.proofs.Common.{◌≡◌, ℕ, ◌+◌, ◌-◌, ◌≤◌, List, [], ◌++◌, length, take, drop, Some, None, Option, sym, refl, ap, ◌∙◌, arith}
 use Rattle.std.proofs.lemmas.List.{append_assoc, append-nil, length-take-le, length-drop, take-take, take_all, drop_all, drop_at, drop-drop}
 use Rattle.std.proofs.lemmas.Slice.{take-put_mid}

@@ -1,5 +1,5 @@
--- A run is followed from its start: it is lawful just if what is left of it leads on lawfully from where it has come to,
--- and its total is that of what is left upon the total so far. By one step at a time.
+-- A run is followed from its start: it is lawful just if what is left of it leads on lawfully from where it has come
+-- to, and its total is that of what is left upon the total so far. By one step at a time.
 use Rattle.std.proofs.Common.{◌≡◌, ℕ, ◌+◌, ◌<◌, false, List, ◌∷◌, length, get_or, drop, Some, Option, sym, ap, ◌∙◌, subst}
 use Rattle.std.proofs.lemmas.List.{drop_more}
 use Rattle.subject.specs.Problems.{Problem}

@@ -13,7 +13,8 @@ use Rattle.sheet.specs.Sheet.{sheet_text}
 use Rattle.sheet.specs.Page.{sealed_problem, PageDrawn, PageRefused}
 use Rattle.sheet.specs.Printing.{IsPrinted, SomePrinted, Shown}
 
-module _ {W T E : Type 0} (w : WriteGhosts W) (out out' : W) (r : Result T E) (survey : Sealed) (request : Request) (steps : List Step) where
+module _ {W T E : Type 0} (w : WriteGhosts W) (out out' : W) (r : Result T E) (survey : Sealed) (request : Request)
+    (steps : List Step) where
   pub sheet_shown : (page bytes : List ℕ) (n : ℕ) → PageDrawn (sealed_problem survey request) steps page bytes n
       → OnOk r (IsPrinted w out out' (take n bytes))
       → OnOk r (SomePrinted w out out' (Shown survey request steps (length page)))

@@ -1,5 +1,5 @@
--- The lines of a lawful run, one step at a time: what is left of the run leads on lawfully from some place, so the loss so
--- far is within the bound, and its lines are what is left of the lines.
+-- The lines of a lawful run, one step at a time: what is left of the run leads on lawfully from some place, so the loss
+-- so far is within the bound, and its lines are what is left of the lines.
 use Rattle.std.proofs.Common.{◌≡◌, ℕ, ◌+◌, ◌<◌, ◌≤◌, false, List, [], ◌∷◌, ◌++◌, length, get_or, drop, Ok, sym, refl, ap, ◌∙◌, subst, arith}
 use Rattle.std.proofs.lemmas.List.{drop_more, append_assoc, length-append}
 use Rattle.subject.specs.Problems.{Problem}

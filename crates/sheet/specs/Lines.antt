@@ -1,5 +1,5 @@
--- The text of a line that is being written: it grows by pieces, while there is room for them in 128 bytes. Stands on nothing
--- but the struct of a line.
+-- The text of a line that is being written: it grows by pieces, while there is room for them in 128 bytes. Stands on
+-- the struct of a line alone.
 use Rattle.std.specs.Prelude.{ℕ, ◌+◌, cond, List, ◌++◌, length, nat_le}
 use Rattle.sheet.specs.declared.text.TextLine.{TextLine}
 

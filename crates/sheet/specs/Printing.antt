@@ -1,5 +1,5 @@
--- What is printed to a writer: of a file that is read nothing, or the line of its fault; of steps their sheet, or the line
--- of a refusal. Stands on sheets, on refusal lines, and on the bytes that a writer holds, where they are known.
+-- What is printed to a writer: of a file that is read nothing, or the line of its fault; of steps their sheet, or the
+-- line of a refusal. Stands on sheets, on refusal lines, and on the bytes that a writer holds, where they are known.
 use Rattle.std.specs.Prelude.{◌≡◌, ℕ, ◌≤◌, ◌⊎◌, List, [], length, Ok, Err, Result}
 use Rattle.std.specs.Io.KnownBytes.{Appends}
 use Rattle.std.specs.declared.io.Write.{Ghosts as WriteGhosts}

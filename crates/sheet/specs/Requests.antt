@@ -1,4 +1,5 @@
--- A request in six bytes: start, end and bound, of two bytes each, high byte first. Stands on the fields of survey files.
+-- A request in six bytes: start, end and bound, of two bytes each, high byte first. Stands on the fields of survey
+-- files.
 use Rattle.std.specs.Prelude.{ℕ, cond, List, length, Ok, Result, nat_lt}
 use Rattle.subject.specs.declared.refusal.Refusal.TheVariants.{CutShort}
 use Rattle.subject.specs.declared.refusal.Fault.{Fault}

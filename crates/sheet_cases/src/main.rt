@@ -3,7 +3,7 @@
 #![tactic(auto)]
 
 use job::job::Job;
-use sample_house::house::house;
+use sample_house::house::survey_of_house;
 use sheet::page::sheet;
 use sheet::pricing::total_of;
 use subject::run::{Request, Step};
@@ -66,7 +66,7 @@ fn unlawful(rt: &HostRuntime, survey: &Sealed) -> anyhow::Result<()> {
         &[plain(2), marked(3), plain(1)],
         999,
     )?;
-    let blank = house(rt.alloc(), None)?;
+    let blank = survey_of_house(rt.alloc(), None)?;
     tell(
         rt,
         "a mark where a price stands",
@@ -139,7 +139,7 @@ fn closed(rt: &HostRuntime, survey: &Sealed) -> anyhow::Result<()> {
 }
 
 fn main(rt: HostRuntime) -> anyhow::Result<()> {
-    let survey = house(rt.alloc(), Some(2000))?;
+    let survey = survey_of_house(rt.alloc(), Some(2000))?;
     let run = [plain(0), marked(2), plain(3), plain(1)];
     tell(
         &rt,

@@ -122,9 +122,9 @@ impl FileReader {
 
     /// Reads a whole file into a draft, in place of what was there.
     ///
-    /// A file that is refused leaves the draft as it was. The answer is then the refusal, which is one of the numbers 1
-    /// to 10, and its byte place; docs/SURVEY-FILE.md has the checks in their order. A file that is accepted is the one that is written from what
-    /// it reads as.
+    /// A file that is refused leaves the draft as it was. The answer is then the refusal, which has a number from 1 to
+    /// 10, and its byte place; docs/SURVEY-FILE.md has the checks in their order. A file that is accepted is the one
+    /// that is written from what it reads as.
     pub fn read(&mut self, bytes: &[u8], draft: &mut Draft) -> Result<(), Fault>
         ensures answer { result ≡ answer_of tt (decode bytes.now) }
         ensures after { contents draft.new ≡ contents_after (contents draft.old) (decode bytes.now) }
