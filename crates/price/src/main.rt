@@ -1,19 +1,22 @@
-// Prices a run that was drawn by hand: reads a request, the steps and a survey file from standard input, and prints the
-// sheet of the run, or why it is refused. The request has six bytes (start, end, bound); then the number of steps in two
-// bytes, and for each step the way in two bytes and a byte 1 for a mark or 0 for none; then the survey file. Numbers have
-// their high byte first. Steps that are cut short are refused like a file cut short at its start.
+//! Prices a run that was drawn by hand.
+//!
+//! Reads a request, the steps and a survey file from standard input, and prints the sheet of the run, or why it is
+//! refused. The request has six bytes (start, end, bound); then the number of steps in two bytes, and for each step the
+//! way in two bytes and a byte 1 for a mark or 0 for none; then the survey file. Numbers have their high byte first.
+//! Steps that are cut short are refused like a file that is cut short at its start.
 #![tactic(auto)]
 
-use sheet::print::{PAGE, print_fault, print_sheet, read_input, request_in, survey_in};
+use sheet::print::{PAGE, print_refusal, print_sheet, read_input, request_in, survey_in};
+use sheet::refused::Refused;
+use std::alloc::{AllocError, Global};
 use subject::refusal::{Fault, Refusal};
 use subject::run::{Request, Step};
-use std::alloc::{AllocError, Global};
 
-// The most bytes that are read: the request, 65,535 steps of three bytes with their number, the longest survey file, and one byte
-// more, so that a byte behind such a file is met.
+// The most bytes that are read: the request, 65,535 steps of three bytes with their number, the longest survey file, and
+// one byte more, so that a byte behind such a file is met.
 const MOST: usize = 213774;
 
-// What stands in the input: the request, the bytes of the steps, and the survey file.
+// What is in the input: the request, the bytes of the steps, and the survey file.
 fn parts(input: &[u8]) -> Result<(Request, &[u8], &[u8]), Fault> {
     let request = request_in(input)?;
     let cut = Fault {
@@ -28,8 +31,8 @@ fn parts(input: &[u8]) -> Result<(Request, &[u8], &[u8]), Fault> {
     Ok((request, steps, file))
 }
 
-// The steps, as they stand in the bytes.
-fn read_steps(heap: Global, bytes: &[u8]) -> Result<Vec<Step>, AllocError> {
+// The steps, in the order of their bytes.
+fn read_steps(alloc: Global, bytes: &[u8]) -> Result<Vec<Step>, AllocError> {
     let (steps, _) = bytes.as_chunks::<3>();
     steps
         .iter()
@@ -37,7 +40,7 @@ fn read_steps(heap: Global, bytes: &[u8]) -> Result<Vec<Step>, AllocError> {
             way: u16::from_be_bytes([high, low]) as usize,
             mark: mark == 1,
         })
-        .collect(heap)
+        .collect(alloc)
 }
 
 // What a request, steps and a survey file come to.
@@ -52,11 +55,10 @@ fn answer(rt: &HostRuntime, request: Request, steps: &[u8], file: &[u8]) -> anyh
 fn run(rt: &HostRuntime, input: &[u8]) -> anyhow::Result<()> {
     match parts(input) {
         Ok((request, steps, file)) => answer(rt, request, steps, file),
-        Err(fault) => print_fault(&mut rt.stdout(), fault),
+        Err(fault) => print_refusal(&mut rt.stdout(), Refused::File(fault)),
     }
 }
 
-// (The input stands in a buffer with a count beside it: the buffer bounds what is read, as is told at `read_input`.)
 fn main(rt: HostRuntime) -> anyhow::Result<()> {
     let mut input = vec![in rt.alloc(); 0u8; MOST]?;
     let count = read_input(&rt, &mut input)?;

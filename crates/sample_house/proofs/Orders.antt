@@ -1,11 +1,11 @@
--- Money and disturbance have the laws of a charge kind. By arithmetic on their figures.
+-- Money and disturbance have the laws of a charge kind. By arithmetic on their amounts and grades.
 use Rattle.std.proofs.Common.{rules}
-use Rattle.subject.specs.Moneys.{money}
+use Rattle.subject.specs.Charges.{Laws, ByMeaning}
 use Rattle.subject.specs.Grades.{disturbance}
-use Rattle.search.specs.Search.{Laws}
+use Rattle.subject.specs.Moneys.{money}
 
 pub money_laws : Laws money
-money_laws = record { total = search rules; transitive = search rules; monotone = search rules; rising = search rules }
+money_laws = unfold ByMeaning in search rules
 
 pub disturbance_laws : Laws disturbance
-disturbance_laws = record { total = search rules; transitive = search rules; monotone = search rules; rising = search rules }
+disturbance_laws = unfold ByMeaning in search rules

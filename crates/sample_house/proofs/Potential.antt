@@ -1,22 +1,21 @@
--- A table of cells, each a place with a loss and a charge, bounds every lawful run from below, since it is closed: it has
--- the start for nothing, and every lawful step from one of its cells leads to another, with a charge no more than the sum.
+-- A table of cells, each a place with a loss and a charge, bounds every lawful run from below where it is closed: it has
+-- the start for nothing, and every lawful step from one of its cells leads to another, with a charge no more than the
+-- sum. By induction over the run from its front.
 use Rattle.std.proofs.Common.{◌≡◌, ℕ, zero, suc, ◌+◌, ◌<◌, ◌≤◌, Bool, true, false, cond, not, T, eqb, ltb, leb, List, [], ◌∷◌, Some, None, Option, sym, refl, ap, ◌∙◌, subst, arith, eqb→eq, leb→le, ltb-false, ltb-true, eq-eqb, ne_eqb, eqb-true, le-leb}
 use borrow.Author.Tests.{eqb-false}
-use Rattle.subject.specs.Charges.{Kind}
+use Rattle.subject.specs.Charges.{Laws}
+use Rattle.subject.specs.Problems.{Problem}
+use Rattle.subject.specs.Runs.{IsMarkAllowed, IsStepOver, loss_after, IsLawful, after_way, total_from, IsLowest, NoLawfulRun, place_behind, loss_behind}
 use Rattle.subject.specs.declared.way.Way.{Way}
 use Rattle.subject.specs.declared.run.Step.{Step}
-use Rattle.subject.specs.declared.run.Request.{Request}
-use Rattle.subject.specs.Sites.{SiteMeaning}
-use Rattle.subject.specs.Runs.{IsMarkAllowed, IsStepOver, loss_after, IsLawful, IsRun, after_way, total_from, IsLowest, place_behind, loss_behind}
-use Rattle.search.specs.Search.{Laws}
 use Rattle.search.proofs.Covers.{step_monotone}
 
--- tests: both, and one that is asked only where another passes
+-- tests: both, and one that counts only where another passes
 abbrev both : Bool → Bool → Bool
 both a b = cond a b false
 
-abbrev asked : Bool → Bool → Bool
-asked a b = cond a b true
+abbrev implies : Bool → Bool → Bool
+implies a b = cond a b true
 
 left_of : (a b : Bool) → T (both a b) → T a
 left_of true b t = tt
@@ -26,9 +25,9 @@ right_of : (a b : Bool) → T (both a b) → T b
 right_of true b t = t
 right_of false b t = absurd t
 
-answered : (a b : Bool) → a ≡ true → T (asked a b) → T b
-answered true b e t = t
-answered false b e t = absurd (let z : ◌≡◌ {A = ℕ} 0 1 = cc in omega arith)
+implies_then : (a b : Bool) → a ≡ true → T (implies a b) → T b
+implies_then true b e t = t
+implies_then false b e t = absurd (let z : ◌≡◌ {A = ℕ} 0 1 = cc in omega arith)
 
 passes : (b : Bool) → b ≡ true → T b
 passes true e = tt
@@ -50,9 +49,9 @@ behind : (a b : Bool) → T b → T (cond a true b)
 behind true b t = tt
 behind false b t = t
 
-denied : (b : Bool) → b ≡ true → T (not b) → ⊥
-denied true e t = t
-denied false e t = let z : ◌≡◌ {A = ℕ} 0 1 = cc in omega arith
+contrary : (b : Bool) → b ≡ true → T (not b) → ⊥
+contrary true e t = t
+contrary false e t = let z : ◌≡◌ {A = ℕ} 0 1 = cc in omega arith
 
 abbrev some_of : {A : Type 0} → (A → Bool) → List A → Bool
 some_of t [] = false
@@ -67,12 +66,12 @@ all_below zero t = true
 all_below (suc n) t = both (t n) (all_below n t)
 
 -- one that passes a test passes every test that all pass
-picked : {A : Type 0} (s t : A → Bool) (xs : List A) → T (some_of s xs) → T (all_of t xs) → (x : A) × T (s x) × T (t x)
-picked s t [] some all = absurd some
-picked s t (x ∷ xs) some all =
+pick : {A : Type 0} (s t : A → Bool) (xs : List A) → T (some_of s xs) → T (all_of t xs) → (x : A) × T (s x) × T (t x)
+pick s t [] some all = absurd some
+pick s t (x ∷ xs) some all =
     elim (s x) as (λ b. s x ≡ b → T (cond b true (some_of s xs)) → (y : _) × T (s y) × T (t y)) [
       | true ↦ (λ e _. (x, passes (s x) e, left_of (t x) (all_of t xs) all))
-      | false ↦ (λ e rest. picked s t xs rest (right_of (t x) (all_of t xs) all))
+      | false ↦ (λ e rest. pick s t xs rest (right_of (t x) (all_of t xs) all))
     ]
     refl some
 
@@ -97,7 +96,7 @@ below_all (suc n) t all i h =
 pub record Cell (C : Type 0) : Type 0 where
   pub place : ℕ
   pub loss : ℕ
-  -- no lawful front of a run that stands here has a lower sum
+  -- no lawful front of a run that is here has a lower sum
   pub low : C
 
 abbrev pub cell : {C : Type 0} → ℕ → ℕ → C → Cell C
@@ -107,198 +106,198 @@ abbrev is_there : {C : Type 0} → Option C → Bool
 is_there None = false
 is_there (Some c) = true
 
-module _ {C : Type 0} (k : Kind C) (m : SiteMeaning C) (q : Request) where
-  -- a mark may stand at a place
+module _ {C : Type 0} (P : Problem C) where
+  -- a repeater may be marked at a place
   abbrev may_mark : Bool → ℕ → Bool
-  may_mark true p = both (is_there (m.repeater p)) (both (not (eqb p q.start)) (not (eqb p q.end)))
+  may_mark true p = both (is_there (P.site.repeater p)) (both (not (eqb p P.request.start)) (not (eqb p P.request.end)))
   may_mark false p = true
 
-  -- a cell stands at a place with a loss, and its charge is no more than a sum
+  -- a cell is at a place with a loss, and its charge is no more than a sum
   abbrev serves : ℕ → ℕ → C → Cell C → Bool
-  serves p l sum c = both (eqb c.place p) (both (eqb c.loss l) (k.within c.low sum))
+  serves p l sum c = both (eqb c.place p) (both (eqb c.loss l) (P.kind.no_more c.low sum))
 
-  abbrev pub served : List (Cell C) → ℕ → ℕ → C → Bool
-  served cells p l sum = some_of (serves p l sum) cells
+  abbrev pub is_served : List (Cell C) → ℕ → ℕ → C → Bool
+  is_served cells p l sum = some_of (serves p l sum) cells
 
   -- a step from a cell over a way, where it is lawful, leads to a cell of the table
-  abbrev step_kept : List (Cell C) → Cell C → Bool → Option (Way C) → Bool
-  step_kept cells c mark None = true
-  step_kept cells c mark (Some w) =
-      asked (eqb w.from c.place) (asked (leb (c.loss + w.loss) q.bound) (asked (may_mark mark w.to)
-      (served cells w.to (loss_after mark (c.loss + w.loss)) (after_way k m c.low mark (Some w)))))
+  abbrev step_stays : List (Cell C) → Cell C → Bool → Option (Way C) → Bool
+  step_stays cells c mark None = true
+  step_stays cells c mark (Some w) =
+      implies (eqb w.from c.place) (implies (leb (c.loss + w.loss) P.request.bound) (implies (may_mark mark w.to)
+      (is_served cells w.to (loss_after mark (c.loss + w.loss)) (after_way P c.low mark (Some w)))))
 
-  abbrev way_kept : List (Cell C) → Cell C → ℕ → Bool
-  way_kept cells c n = both (step_kept cells c false (m.way n)) (step_kept cells c true (m.way n))
+  abbrev way_stays : List (Cell C) → Cell C → ℕ → Bool
+  way_stays cells c n = both (step_stays cells c false (P.site.way n)) (step_stays cells c true (P.site.way n))
 
   -- the table has the start for nothing, and no lawful step leads out of it
-  abbrev pub closed : List (Cell C) → Bool
-  closed cells = both (served cells q.start 0 k.free) (all_of (λ c. all_below m.ways (way_kept cells c)) cells)
+  abbrev pub is_closed : List (Cell C) → Bool
+  is_closed cells = both (is_served cells P.request.start 0 P.kind.nothing) (all_of (λ c. all_below P.site.ways (way_stays cells c)) cells)
 
   -- every cell of the end has at least the charge c
   abbrev pub ends_from : C → List (Cell C) → Bool
-  ends_from c cells = all_of (λ x. asked (eqb x.place q.end) (k.within c x.low)) cells
+  ends_from c cells = all_of (λ x. implies (eqb x.place P.request.end) (P.kind.no_more c x.low)) cells
 
   -- no cell is one of the end
   abbrev pub endless : List (Cell C) → Bool
-  endless cells = all_of (λ x. not (eqb x.place q.end)) cells
+  endless cells = all_of (λ x. not (eqb x.place P.request.end)) cells
 
   there : (o : Option C) (c : C) → o ≡ Some c → is_there o ≡ true
   there None c e = absurd (let z : ◌≡◌ {A = ℕ} 0 1 = cc in omega arith)
   there (Some d) c e = refl
 
-  mark_passes : (mark : Bool) (p : ℕ) → IsMarkAllowed m q mark p → may_mark mark p ≡ true
+  mark_passes : (mark : Bool) (p : ℕ) → IsMarkAllowed P mark p → may_mark mark p ≡ true
   mark_passes false p a = refl
   mark_passes true p a =
-      let e1 = there (m.repeater p) a.repeater a.stands in
-      let e2 = ne_eqb p q.start a.not_start in
-      let e3 = ne_eqb p q.end a.not_end in
-      ap (λ b. both b (both (not (eqb p q.start)) (not (eqb p q.end)))) e1
-      ∙ ap (λ b. both (not b) (not (eqb p q.end))) e2
+      let e1 = there (P.site.repeater p) a.repeater a.entered in
+      let e2 = ne_eqb p P.request.start a.not_start in
+      let e3 = ne_eqb p P.request.end a.not_end in
+      ap (λ b. both b (both (not (eqb p P.request.start)) (not (eqb p P.request.end)))) e1
+      ∙ ap (λ b. both (not b) (not (eqb p P.request.end))) e2
       ∙ ap not e3
 
-  -- whichever test the mark is, the way was tried with it
-  tried : (cells : List (Cell C)) (c : Cell C) (mark : Bool) (n : ℕ) → T (way_kept cells c n) → T (step_kept cells c mark (m.way n))
-  tried cells c false n t = left_of (step_kept cells c false (m.way n)) (step_kept cells c true (m.way n)) t
-  tried cells c true n t = right_of (step_kept cells c false (m.way n)) (step_kept cells c true (m.way n)) t
+  -- a way stays with either mark
+  step_of_way : (cells : List (Cell C)) (c : Cell C) (mark : Bool) (n : ℕ) → T (way_stays cells c n) → T (step_stays cells c mark (P.site.way n))
+  step_of_way cells c false n t = left_of (step_stays cells c false (P.site.way n)) (step_stays cells c true (P.site.way n)) t
+  step_of_way cells c true n t = right_of (step_stays cells c false (P.site.way n)) (step_stays cells c true (P.site.way n)) t
 
   -- a step goes over a way lawfully, and steps lead on lawfully, as tests
   abbrev goes_over : ℕ → ℕ → Bool → Option (Way C) → Bool
   goes_over p l mark None = false
-  goes_over p l mark (Some w) = both (eqb w.from p) (both (leb (l + w.loss) q.bound) (may_mark mark w.to))
+  goes_over p l mark (Some w) = both (eqb w.from p) (both (leb (l + w.loss) P.request.bound) (may_mark mark w.to))
 
   abbrev pub leads_on : ℕ → ℕ → List Step → Bool
-  leads_on p l [] = eqb p q.end
+  leads_on p l [] = eqb p P.request.end
   leads_on p l (s ∷ rest) =
-      both (goes_over p l s.mark (m.way s.way)) (leads_on (place_behind (m.way s.way)) (loss_behind (m.way s.way) s.mark l) rest)
+      both (goes_over p l s.mark (P.site.way s.way)) (leads_on (place_behind (P.site.way s.way)) (loss_behind (P.site.way s.way) s.mark l) rest)
 
-  stands_there : (o : Option C) → T (is_there o) → (c : C) × (o ≡ Some c)
-  stands_there None t = absurd t
-  stands_there (Some c) t = (c, refl)
+  charge_there : (o : Option C) → T (is_there o) → (c : C) × (o ≡ Some c)
+  charge_there None t = absurd t
+  charge_there (Some c) t = (c, refl)
 
   differs : (a b : ℕ) → T (not (eqb a b)) → a ≡ b → ⊥
-  differs a b t e = denied (eqb a b) (eq-eqb a b e) t
+  differs a b t e = contrary (eqb a b) (eq-eqb a b e) t
 
-  mark_is_allowed : (mark : Bool) (p : ℕ) → T (may_mark mark p) → IsMarkAllowed m q mark p
+  mark_is_allowed : (mark : Bool) (p : ℕ) → T (may_mark mark p) → IsMarkAllowed P mark p
   mark_is_allowed false p t = tt
   mark_is_allowed true p t =
-      let ends = right_of (is_there (m.repeater p)) (both (not (eqb p q.start)) (not (eqb p q.end))) t in
-      let r = stands_there (m.repeater p) (left_of (is_there (m.repeater p)) (both (not (eqb p q.start)) (not (eqb p q.end))) t) in
+      let ends = right_of (is_there (P.site.repeater p)) (both (not (eqb p P.request.start)) (not (eqb p P.request.end))) t in
+      let r = charge_there (P.site.repeater p) (left_of (is_there (P.site.repeater p)) (both (not (eqb p P.request.start)) (not (eqb p P.request.end))) t) in
       record {
         repeater = r.0;
-        stands = r.1;
-        not_start = differs p q.start (left_of (not (eqb p q.start)) (not (eqb p q.end)) ends);
-        not_end = differs p q.end (right_of (not (eqb p q.start)) (not (eqb p q.end)) ends);
+        entered = r.1;
+        not_start = differs p P.request.start (left_of (not (eqb p P.request.start)) (not (eqb p P.request.end)) ends);
+        not_end = differs p P.request.end (right_of (not (eqb p P.request.start)) (not (eqb p P.request.end)) ends);
       }
 
-  pub leads_on_lawfully : (run : List Step) (p l : ℕ) → T (leads_on p l run) → IsLawful m q p l run
-  leads_on_lawfully [] p l t = eqb→eq p q.end t
+  pub leads_on_lawfully : (run : List Step) (p l : ℕ) → T (leads_on p l run) → IsLawful P p l run
+  leads_on_lawfully [] p l t = eqb→eq p P.request.end t
   leads_on_lawfully (s ∷ rest) p l t =
-      elim (m.way s.way) as (λ o. m.way s.way ≡ o → T (both (goes_over p l s.mark o) (leads_on (place_behind o) (loss_behind o s.mark l) rest)) → IsLawful m q p l (s ∷ rest)) [
+      elim (P.site.way s.way) as (λ o. P.site.way s.way ≡ o → T (both (goes_over p l s.mark o) (leads_on (place_behind o) (loss_behind o s.mark l) rest)) → IsLawful P p l (s ∷ rest)) [
         | None ↦ (λ e u. absurd u)
         | Some w ↦ (λ e u.
             let goes = left_of (goes_over p l s.mark (Some w)) (leads_on w.to (loss_after s.mark (l + w.loss)) rest) u in
             let on = right_of (goes_over p l s.mark (Some w)) (leads_on w.to (loss_after s.mark (l + w.loss)) rest) u in
-            let more = right_of (eqb w.from p) (both (leb (l + w.loss) q.bound) (may_mark s.mark w.to)) goes in (
+            let more = right_of (eqb w.from p) (both (leb (l + w.loss) P.request.bound) (may_mark s.mark w.to)) goes in (
               w,
               record {
                 opens = e;
-                leaves = eqb→eq w.from p (left_of (eqb w.from p) (both (leb (l + w.loss) q.bound) (may_mark s.mark w.to)) goes);
-                arrives = leb→le (l + w.loss) q.bound (left_of (leb (l + w.loss) q.bound) (may_mark s.mark w.to) more);
-                marks = mark_is_allowed s.mark w.to (right_of (leb (l + w.loss) q.bound) (may_mark s.mark w.to) more);
+                leaves = eqb→eq w.from p (left_of (eqb w.from p) (both (leb (l + w.loss) P.request.bound) (may_mark s.mark w.to)) goes);
+                arrives = leb→le (l + w.loss) P.request.bound (left_of (leb (l + w.loss) P.request.bound) (may_mark s.mark w.to) more);
+                marks = mark_is_allowed s.mark w.to (right_of (leb (l + w.loss) P.request.bound) (may_mark s.mark w.to) more);
               },
               leads_on_lawfully rest w.to (loss_after s.mark (l + w.loss)) on,
             ))
       ]
       refl t
 
-  module _ (laws : Laws k) (past : (n : ℕ) → m.ways ≤ n → m.way n ≡ None) (cells : List (Cell C)) (ok : T (closed cells)) where
+  module _ (laws : Laws P.kind) (past : (n : ℕ) → P.site.ways ≤ n → P.site.way n ≡ None) (cells : List (Cell C)) (ok : T (is_closed cells)) where
     -- a higher sum is served by the same cell
-    served_more : (p l : ℕ) (a b : C) → k.within a b ≡ true → T (served cells p l a) → T (served cells p l b)
-    served_more p l a b h =
+    is_served_more : (p l : ℕ) (a b : C) → P.kind.no_more a b ≡ true → T (is_served cells p l a) → T (is_served cells p l b)
+    is_served_more p l a b h =
         some_more (serves p l a) (serves p l b)
         (λ x t.
-        let at = left_of (eqb x.place p) (both (eqb x.loss l) (k.within x.low a)) t in
-        let more = right_of (eqb x.place p) (both (eqb x.loss l) (k.within x.low a)) t in
-        let lost = left_of (eqb x.loss l) (k.within x.low a) more in
-        let low = is_true (k.within x.low a) (right_of (eqb x.loss l) (k.within x.low a) more) in
-        together (eqb x.place p) (both (eqb x.loss l) (k.within x.low b)) at
-        (together (eqb x.loss l) (k.within x.low b) lost
-        (passes (k.within x.low b) (laws.transitive x.low a b low h))))
+        let at = left_of (eqb x.place p) (both (eqb x.loss l) (P.kind.no_more x.low a)) t in
+        let more = right_of (eqb x.place p) (both (eqb x.loss l) (P.kind.no_more x.low a)) t in
+        let lost = left_of (eqb x.loss l) (P.kind.no_more x.low a) more in
+        let low = is_true (P.kind.no_more x.low a) (right_of (eqb x.loss l) (P.kind.no_more x.low a) more) in
+        together (eqb x.place p) (both (eqb x.loss l) (P.kind.no_more x.low b)) at
+        (together (eqb x.loss l) (P.kind.no_more x.low b) lost
+        (passes (P.kind.no_more x.low b) (laws.transitive x.low a b low h))))
         cells
 
-    inside : (n : ℕ) (w : Way C) → m.way n ≡ Some w → n < m.ways
+    inside : (n : ℕ) (w : Way C) → P.site.way n ≡ Some w → n < P.site.ways
     inside n w e =
-        elim (ltb n m.ways) as (λ b. ltb n m.ways ≡ b → n < m.ways) [
-          | true ↦ (λ t. ltb-true n m.ways t)
-          | false ↦ (λ t. let none = past n (ltb-false n m.ways t) in let z : ◌≡◌ {A = ℕ} 0 1 = cc in absurd (omega arith))
+        elim (ltb n P.site.ways) as (λ b. ltb n P.site.ways ≡ b → n < P.site.ways) [
+          | true ↦ (λ t. ltb-true n P.site.ways t)
+          | false ↦ (λ t. let none = past n (ltb-false n P.site.ways t) in let z : ◌≡◌ {A = ℕ} 0 1 = cc in absurd (omega arith))
         ]
         refl
 
-    -- a cell that serves: where it stands, and that it has passed what all cells pass
-    cell_of : (t : Cell C → Bool) (p l : ℕ) (sum : C) → T (all_of t cells) → T (served cells p l sum)
-        → (x : Cell C) × (x.place ≡ p) × (x.loss ≡ l) × (k.within x.low sum ≡ true) × T (t x)
+    -- a cell that serves: where it is, and that it passes what all cells pass
+    cell_of : (t : Cell C → Bool) (p l : ℕ) (sum : C) → T (all_of t cells) → T (is_served cells p l sum)
+        → (x : Cell C) × (x.place ≡ p) × (x.loss ≡ l) × (P.kind.no_more x.low sum ≡ true) × T (t x)
     cell_of t p l sum all some =
-        let f = picked (serves p l sum) t cells some all in
+        let f = pick (serves p l sum) t cells some all in
         let x = f.0 in
-        let at = left_of (eqb x.place p) (both (eqb x.loss l) (k.within x.low sum)) f.1 in
-        let more = right_of (eqb x.place p) (both (eqb x.loss l) (k.within x.low sum)) f.1 in (
+        let at = left_of (eqb x.place p) (both (eqb x.loss l) (P.kind.no_more x.low sum)) f.1 in
+        let more = right_of (eqb x.place p) (both (eqb x.loss l) (P.kind.no_more x.low sum)) f.1 in (
           x,
           eqb→eq x.place p at,
-          eqb→eq x.loss l (left_of (eqb x.loss l) (k.within x.low sum) more),
-          is_true (k.within x.low sum) (right_of (eqb x.loss l) (k.within x.low sum) more),
+          eqb→eq x.loss l (left_of (eqb x.loss l) (P.kind.no_more x.low sum) more),
+          is_true (P.kind.no_more x.low sum) (right_of (eqb x.loss l) (P.kind.no_more x.low sum) more),
           f.2,
         )
 
-    all_kept : T (all_of (λ c. all_below m.ways (way_kept cells c)) cells)
-    all_kept = right_of (served cells q.start 0 k.free) (all_of (λ c. all_below m.ways (way_kept cells c)) cells) ok
+    all_stay : T (all_of (λ c. all_below P.site.ways (way_stays cells c)) cells)
+    all_stay = right_of (is_served cells P.request.start 0 P.kind.nothing) (all_of (λ c. all_below P.site.ways (way_stays cells c)) cells) ok
 
-    -- what is asked of a lawful step has been answered
-    led : (x : Cell C) (mark : Bool) (w : Way C) → w.from ≡ x.place → x.loss + w.loss ≤ q.bound → may_mark mark w.to ≡ true
-        → T (step_kept cells x mark (Some w)) → T (served cells w.to (loss_after mark (x.loss + w.loss)) (after_way k m x.low mark (Some w)))
-    led x mark w from bound may t =
-        answered (may_mark mark w.to) _ may
-        (answered (leb (x.loss + w.loss) q.bound) _ (le-leb (x.loss + w.loss) q.bound bound)
-        (answered (eqb w.from x.place) _ (eq-eqb w.from x.place from) t))
+    -- a lawful step from a cell leads to a cell of the table
+    step_leads : (x : Cell C) (mark : Bool) (w : Way C) → w.from ≡ x.place → x.loss + w.loss ≤ P.request.bound → may_mark mark w.to ≡ true
+        → T (step_stays cells x mark (Some w)) → T (is_served cells w.to (loss_after mark (x.loss + w.loss)) (after_way P x.low mark (Some w)))
+    step_leads x mark w from bound may t =
+        implies_then (may_mark mark w.to) _ may
+        (implies_then (leb (x.loss + w.loss) P.request.bound) _ (le-leb (x.loss + w.loss) P.request.bound bound)
+        (implies_then (eqb w.from x.place) _ (eq-eqb w.from x.place from) t))
 
     -- a lawful step leads from what the table serves to what it serves
-    onward : (p l : ℕ) (sum : C) (s : Step) (w : Way C) → T (served cells p l sum) → IsStepOver m q p l s w
-        → T (served cells w.to (loss_after s.mark (l + w.loss)) (after_way k m sum s.mark (Some w)))
+    onward : (p l : ℕ) (sum : C) (s : Step) (w : Way C) → T (is_served cells p l sum) → IsStepOver P p l s w
+        → T (is_served cells w.to (loss_after s.mark (l + w.loss)) (after_way P sum s.mark (Some w)))
     onward p l sum s w t goes =
-        let f = cell_of (λ c. all_below m.ways (way_kept cells c)) p l sum all_kept t in
+        let f = cell_of (λ c. all_below P.site.ways (way_stays cells c)) p l sum all_stay t in
         let x = f.0 in
-        let way = below_all m.ways (way_kept cells x) f.4 s.way (inside s.way w goes.opens) in
-        let step = subst (λ o. T (step_kept cells x s.mark o)) goes.opens (tried cells x s.mark s.way way) in
-        let bound = subst (λ n. n + w.loss ≤ q.bound) (sym f.2) goes.arrives in
-        let to = led x s.mark w (goes.leaves ∙ sym f.1) bound (mark_passes s.mark w.to goes.marks) step in
-        served_more w.to (loss_after s.mark (l + w.loss)) (after_way k m x.low s.mark (Some w)) (after_way k m sum s.mark (Some w))
-        (step_monotone k laws m x.low sum s.mark (Some w) f.3)
-        (subst (λ n. T (served cells w.to (loss_after s.mark (n + w.loss)) (after_way k m x.low s.mark (Some w)))) f.2 to)
+        let way = below_all P.site.ways (way_stays cells x) f.4 s.way (inside s.way w goes.opens) in
+        let step = subst (λ o. T (step_stays cells x s.mark o)) goes.opens (step_of_way cells x s.mark s.way way) in
+        let bound = subst (λ n. n + w.loss ≤ P.request.bound) (sym f.2) goes.arrives in
+        let to = step_leads x s.mark w (goes.leaves ∙ sym f.1) bound (mark_passes s.mark w.to goes.marks) step in
+        is_served_more w.to (loss_after s.mark (l + w.loss)) (after_way P x.low s.mark (Some w)) (after_way P sum s.mark (Some w))
+        (step_monotone P laws x.low sum s.mark (Some w) f.3)
+        (subst (λ n. T (is_served cells w.to (loss_after s.mark (n + w.loss)) (after_way P x.low s.mark (Some w)))) f.2 to)
 
-    front : (Q : C → Type 0) → ((l : ℕ) (sum : C) → T (served cells q.end l sum) → Q sum)
-        → (run : List Step) (p l : ℕ) (sum : C) → T (served cells p l sum) → IsLawful m q p l run → Q (total_from k m sum run)
-    front Q ends [] p l sum t e = ends l sum (subst (λ n. T (served cells n l sum)) e t)
+    front : (Q : C → Type 0) → ((l : ℕ) (sum : C) → T (is_served cells P.request.end l sum) → Q sum)
+        → (run : List Step) (p l : ℕ) (sum : C) → T (is_served cells p l sum) → IsLawful P p l run → Q (total_from P sum run)
+    front Q ends [] p l sum t e = ends l sum (subst (λ n. T (is_served cells n l sum)) e t)
     front Q ends (s ∷ rest) p l sum t lawful =
         let w = lawful.0 in
         let opens = lawful.1.opens in
-        subst (λ o. Q (total_from k m (after_way k m sum s.mark o) rest)) (sym opens)
-        (front Q ends rest w.to (loss_after s.mark (l + w.loss)) (after_way k m sum s.mark (Some w)) (onward p l sum s w t lawful.1) lawful.2)
+        subst (λ o. Q (total_from P (after_way P sum s.mark o) rest)) (sym opens)
+        (front Q ends rest w.to (loss_after s.mark (l + w.loss)) (after_way P sum s.mark (Some w)) (onward p l sum s w t lawful.1) lawful.2)
 
-    started : T (served cells q.start 0 k.free)
-    started = left_of (served cells q.start 0 k.free) (all_of (λ c. all_below m.ways (way_kept cells c)) cells) ok
+    start_is_served : T (is_served cells P.request.start 0 P.kind.nothing)
+    start_is_served = left_of (is_served cells P.request.start 0 P.kind.nothing) (all_of (λ c. all_below P.site.ways (way_stays cells c)) cells) ok
 
-    pub none_lower : (c : C) → T (ends_from c cells) → IsLowest k m q c
+    pub none_lower : (c : C) → T (ends_from c cells) → IsLowest P c
     none_lower c ends run lawful =
-        front (λ sum. k.within c sum ≡ true)
+        front (λ sum. P.kind.no_more c sum ≡ true)
         (λ l sum t.
-        let f = cell_of (λ x. asked (eqb x.place q.end) (k.within c x.low)) q.end l sum ends t in
-        let low = answered (eqb f.0.place q.end) (k.within c f.0.low) (eq-eqb f.0.place q.end f.1) f.4 in
-        laws.transitive c f.0.low sum (is_true (k.within c f.0.low) low) f.3)
-        run q.start 0 k.free started lawful
+        let f = cell_of (λ x. implies (eqb x.place P.request.end) (P.kind.no_more c x.low)) P.request.end l sum ends t in
+        let low = implies_then (eqb f.0.place P.request.end) (P.kind.no_more c f.0.low) (eq-eqb f.0.place P.request.end f.1) f.4 in
+        laws.transitive c f.0.low sum (is_true (P.kind.no_more c f.0.low) low) f.3)
+        run P.request.start 0 P.kind.nothing start_is_served lawful
 
-    pub none_lawful : T (endless cells) → (run : List Step) → IsRun m q run → ⊥
+    pub none_lawful : T (endless cells) → NoLawfulRun P
     none_lawful ends run lawful =
         front (λ sum. ⊥)
         (λ l sum t.
-        let f = cell_of (λ x. not (eqb x.place q.end)) q.end l sum ends t in
-        denied (eqb f.0.place q.end) (eq-eqb f.0.place q.end f.1) f.4)
-        run q.start 0 k.free started lawful
+        let f = cell_of (λ x. not (eqb x.place P.request.end)) P.request.end l sum ends t in
+        contrary (eqb f.0.place P.request.end) (eq-eqb f.0.place P.request.end f.1) f.4)
+        run P.request.start 0 P.kind.nothing start_is_served lawful

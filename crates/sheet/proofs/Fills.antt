@@ -49,10 +49,10 @@ module _ {R : Type 0} (r : ReadGhosts R) (source mid after : R) (start buffer pi
   abbrev lent : List ℕ
   lent = mid_of at (length buffer - at) buffer
 
-  pub filled-next : length buffer ≡ length start → length piece ≡ length lent
+  pub filled_next : length buffer ≡ length start → length piece ≡ length lent
       → Filled r source mid start buffer at → Filled r mid after lent piece n
       → Filled r source after start (put_mid at (length buffer - at) buffer piece) (at + n)
-  filled-next same as_many f g =
+  filled_next same as_many f g =
       let inside : at ≤ length buffer = omega (arith, same, f.fits) in
       let room = ap length (part at buffer piece inside) ∙ length-drop at buffer in
       let few : n ≤ length piece = omega (arith, g.fits, as_many) in

@@ -2,3 +2,4 @@ pub mod Growing
 pub mod Stepping
 pub mod Following
 mod Fills
+mod Pages

@@ -31,7 +31,7 @@ module _ (P : Problem Money) (steps : List Step) where
     pub fits : n ≤ length out
     pub bytes : out' ≡ sheet_text P steps ++ drop n out
 
-  -- why there is no sheet: the steps are no lawful run, or the text is longer than the bytes, of which there are so many
+  -- why there is no sheet: the steps are no lawful run, or the text is longer than the bytes, which are so many
   abbrev pub RunCause : ℕ → Refusal → Type 0
   RunCause room e =
       ((e ≡ NotLawful) × (IsRun P steps → ⊥))

@@ -1,4 +1,4 @@
-// Numbers in decimal.
+//! Numbers in decimal.
 ghost use Rattle.std.specs.Prelude.{◌≡◌, decimal};
 ghost use Rattle.survey_file.specs.Pieces.{put_answer, put_bytes};
 ghost use Rattle.sheet.specs.Decimals.{IsPlainDecimal};

@@ -1,4 +1,4 @@
-// What programs read and print: decimal numbers, refusal lines, the sheet of a run, requests and survey files.
+//! What programs read and print: decimal numbers, refusal lines, the sheet of a run, requests and survey files.
 #![tactic(auto)]
 
 pub mod digits;

@@ -1,4 +1,4 @@
-// The lines of a sheet.
+//! The lines of a sheet.
 ghost use Rattle.std.specs.Prelude.{◌≡◌};
 ghost use Rattle.sheet.specs.Lines.{text_of};
 ghost use Rattle.sheet.specs.Sheet.{run_line, mark_end, step_line, total_line};

@@ -1,4 +1,4 @@
-// The sheet of a run over a sealed survey.
+//! The sheet of a run over a sealed survey.
 ghost use Rattle.std.specs.Prelude.{◌≡◌, ◌<◌, ◌≤◌, length, IfOk, IfErr, OnErr};
 ghost use Rattle.survey_file.specs.Pieces.{put_answer, put_bytes};
 ghost use Rattle.subject.specs.declared.refusal.Refusal.TheVariants.{NotLawful};
@@ -47,7 +47,7 @@ fn lawful_total(view: &MoneyView<'_>, request: Request, steps: &[Step]) -> Resul
     total_of(view, request, steps).ok_or(Refusal::NotLawful)
 }
 
-/// The sheet of a run over a survey, into the front of the bytes, and how long it is.
+///! The sheet of a run over a survey, into the front of the bytes, and how long it is.
 ///
 /// Refused are, in this order, a missing start or end with 14, a wrong bound with 15, steps that are no lawful run for
 /// money with 19, and a sheet that does not fit with 18; then all bytes stay.

@@ -1,4 +1,4 @@
-// Runs that were drawn by hand: whether one is lawful, and its total.
+//! Runs that were drawn by hand: whether one is lawful, and its total.
 ghost use Rattle.std.specs.Prelude.{◌≡◌, ◌↔◌, IsTrue, IfNone, IfSome};
 ghost use Rattle.subject.specs.Problems.{problem_of};
 ghost use Rattle.subject.specs.Runs.{IsMarkAllowed, IsRun};

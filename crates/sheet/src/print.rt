@@ -1,5 +1,5 @@
-// What programs read and print: a request in six bytes, standard input up to a number of bytes, survey files, sheets
-// and refusals.
+//! What programs read and print: a request in six bytes, standard input up to a number of bytes, survey files, sheets
+//! and refusals.
 ghost use Rattle.std.specs.Prelude.{◌≡◌, ℕ, ◌<◌, ◌≤◌, length, drop, IfOk, IfErr, OnOk, OnErr};
 ghost use Rattle.std.specs.Io.KnownBytes.{IsAtEnd, Keeps};
 ghost use Rattle.std.specs.Option.{option_map};
@@ -68,7 +68,7 @@ fn read_piece<R: Read>(source: &mut R, buffer: &mut [u8]) -> io::Result<usize>
 
 /// Fills the buffer from a reader, as far as that gives bytes; how many came.
 ///
-/// The bytes behind them stay as they were. Where the reader fails, what came before that is at the front of the buffer.
+/// The bytes behind them stay as they were. Where the reader fails, what came before is at the front of the buffer.
 pub fn fill<R: Read>(source: &mut R, buffer: &mut [u8]) -> io::Result<usize>
     ensures ok { IfOk result (Filled R.Read source.old source.new buffer.old buffer.new) }
     ensures all { IfOk result (λ n. n < length buffer.old → IsAtEnd (R.Read.remaining source.new)) }
@@ -133,6 +133,7 @@ pub fn survey_in<W: Write>(
 }
 
 // Prints the sheet of the steps over a survey, or why there is none, by way of a page that is lent.
+#[tactic(auto, using(crate::proofs::Pages::refusal_shown))]
 fn print_page<W: Write>(
     out: &mut W,
     survey: &Sealed,
@@ -193,8 +194,8 @@ mod tests {
         Ok(())
     }
 
-    // There is memory for a survey: a file of one place is read and nothing printed, and one without bytes is refused and
-    // its fault printed.
+    // There is memory for a survey: a file of one place is read and nothing printed, and one without bytes is refused
+    // and its fault printed.
     #[test]
     fn a_survey_is_read(rt: HostRuntime) -> Result<(), Fail> {
         let file = [1, 0, 2, 0, 1, 2, 0, 0, 4, 0, 0];

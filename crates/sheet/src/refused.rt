@@ -1,4 +1,4 @@
-// The line that says why a call or a file was refused.
+//! The line that says why a call or a file was refused.
 ghost use Rattle.std.specs.Prelude.{◌≡◌};
 ghost use Rattle.survey_file.specs.Pieces.{put_answer, put_bytes};
 ghost use Rattle.sheet.specs.Lines.{text_of};

@@ -1,4 +1,4 @@
-// The lines of the steps of a lawful run: first how long they are, then into the bytes.
+//! The lines of the steps of a lawful run: first how long they are, then into the bytes.
 ghost use Rattle.std.specs.Prelude.{◌≡◌, ◌+◌, ◌<◌, ◌≤◌, length, Ok, IfSome, IfNone};
 ghost use Rattle.subject.specs.declared.run.TheConstants.{MOST_BOUND};
 

@@ -1,11 +1,11 @@
-// Sheets of runs over the house on four places: a lawful one, steps that are no lawful run for each of the reasons there are,
-// requests that are refused, and bytes that are too few.
+//! Sheets of runs over the house on four places: a lawful one, steps that are no lawful run for each of the reasons there
+//! are, requests that are refused, and bytes that are too few.
 #![tactic(auto)]
 
-use sample_house::house;
 use job::job::Job;
-use sheet::pricing::total_of;
+use sample_house::house::house;
 use sheet::page::sheet;
+use sheet::pricing::total_of;
 use subject::run::{Request, Step};
 use survey::sealed::Sealed;
 use survey::view::MoneyView;
@@ -22,7 +22,7 @@ fn request(start: usize, end: usize, bound: usize) -> Request {
     Request { start, end, bound }
 }
 
-// Tells what the sheet call answers, with so many bytes. (All of it as arguments: a call is a case.)
+// Tells what the sheet call answers, with so many bytes.
 fn tell(
     rt: &HostRuntime,
     name: &str,

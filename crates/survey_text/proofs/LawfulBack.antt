@@ -16,7 +16,7 @@ use Rattle.survey_text.specs.declared.trouble.Trouble.{Trouble}
 use Rattle.survey_text.specs.declared.trouble.Column.TheVariants.{Repeater}
 use Rattle.survey_text.specs.Fields.{Row, field, text_check, row_check, repeater_of, end_check}
 use Rattle.survey_text.specs.Names.{name_check, name_of, are_names}
-use Rattle.survey_text.specs.Texts.{NamedContents, NamedPlace, Read, place_in_row, way_in_row, as_cause, enter_place, enter_way, enter_row, place_word, way_word, says_nothing, is_heading, turn_of, with_trouble, walk, survey_of_text, nothing_read, named_contents, Tells}
+use Rattle.survey_text.specs.Texts.{NamedContents, NamedPlace, Progress, place_in_row, way_in_row, as_cause, enter_place, enter_way, enter_row, place_word, way_word, says_nothing, is_heading, turn_of, with_trouble, walk, survey_of_text, nothing_read, named_contents, Tells}
 use Rattle.survey_text.specs.declared.text.SurveyText.{SurveyText}
 use Rattle.survey_text.specs.Written.{is_lawful}
 use Rattle.survey_text.proofs.NumberBack.{both}
@@ -116,7 +116,7 @@ row_keeps c d r h n = elim (cases_Bool (bytes_eq (field r 0) place_word)) [
   ]
 ]
 
-turn_keeps : (s t : Read) (r : Row) → turn_of s r ≡ Ok t → Named s.so_far → Named t.so_far
+turn_keeps : (s t : Progress) (r : Row) → turn_of s r ≡ Ok t → Named s.so_far → Named t.so_far
 turn_keeps s t r h n =
     let checked = then_ok (row_check r) _ t h in
     by (says_nothing r) (not s.is_begun && is_heading r) checked.2
@@ -129,11 +129,11 @@ turn_keeps s t r h n =
         let row = then_ok (enter_row s.so_far r) _ t e in
         named_by row.0 t.so_far (ap (λ z. z.so_far) (ok_same _ t row.2)) (row_keeps s.so_far row.0 r row.1 n)
 
-trouble_ok : (text : List ℕ) (k : ℕ) (r : Row) (o : Result Read Cause) (t : Read) → with_trouble text k r o ≡ Ok t → o ≡ Ok t
+trouble_ok : (text : List ℕ) (k : ℕ) (r : Row) (o : Result Progress Cause) (t : Progress) → with_trouble text k r o ≡ Ok t → o ≡ Ok t
 trouble_ok text k r (Ok s) t h = cc
 trouble_ok text k r (Err e) t h = absurd (cc h)
 
-walk_keeps : (text : List ℕ) (k : ℕ) (s : Read) (rows : List Row) (c : NamedContents) → walk text k s rows ≡ Ok c → Named s.so_far → Named c
+walk_keeps : (text : List ℕ) (k : ℕ) (s : Progress) (rows : List Row) (c : NamedContents) → walk text k s rows ≡ Ok c → Named s.so_far → Named c
 walk_keeps text k s [] c h n = named_by s.so_far c (ok_same s.so_far c h) n
 walk_keeps text k s (r ∷ rows) c h n =
     let next = then_ok (with_trouble text k r (turn_of s r)) _ c h in

@@ -14,7 +14,7 @@ use Rattle.survey.specs.PassedChecks.{then_passed}
 use Rattle.survey_text.specs.declared.trouble.Cause.{Cause}
 use Rattle.survey_text.specs.declared.trouble.Cause.TheVariants.{NotText, ControlCharacter}
 use Rattle.survey_text.specs.Fields.{Row, is_control, text_check, row_check}
-use Rattle.survey_text.specs.Texts.{Read as TextRead, turn_of}
+use Rattle.survey_text.specs.Texts.{Progress, turn_of}
 use Rattle.std.specs.Str.{is_utf8}
 use Rattle.survey_text.specs.Lines.{is_break, past_breaks, behind, line_at, row_line}
 use Rattle.survey_text.specs.Filled.{past_line, from_line, filled_line}
@@ -266,7 +266,7 @@ checked_plain (f ∷ r) h =
     let plain = field_plain f (text_by (is_utf8 f) (list_any is_control f) good) in
     rw plain (checked_plain r both.2)
 
-pub turned_plain : (s t : TextRead) (r : Row) → turn_of s r ≡ Ok t → has_break r ≡ false
+pub turned_plain : (s t : Progress) (r : Row) → turn_of s r ≡ Ok t → has_break r ≡ false
 turned_plain s t r h =
     let passed = then_passed (row_check r) _ (ap is_ok h) in
     checked_plain r (ap is_ok passed.1)

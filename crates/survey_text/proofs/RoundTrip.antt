@@ -16,7 +16,7 @@ use Rattle.survey.specs.Sealing.{sealed_contents}
 use Rattle.survey.specs.PassedChecks.{cond_first, cond_second}
 use Rattle.survey_text.specs.Fields.{Row, field}
 use Rattle.survey_text.specs.Names.{name_of, are_names}
-use Rattle.survey_text.specs.Texts.{NamedContents, Read, in_rows, nothing_read, turn_of, walk, survey_of_text}
+use Rattle.survey_text.specs.Texts.{NamedContents, Progress, in_rows, nothing_read, turn_of, walk, survey_of_text}
 use Rattle.survey_text.specs.Written.{heading, place_fields, way_fields, place_rows, survey_rows, rows_text, survey_text, with_names, is_lawful}
 use Rattle.survey_text.proofs.NumberBack.{both}
 use Rattle.survey_text.proofs.RowsBack.{with_places, with_ways, turn_heading, turn_place, turn_way}
@@ -65,7 +65,7 @@ unfolding strip_bom fields_text escaped is_blank
 no_mark rows = refl
 
 -- one row of the walk
-step : (text : List ℕ) (k : ℕ) (s t : Read) (r : Row) (rs : List Row) → turn_of s r ≡ Ok t → walk text k s (r ∷ rs) ≡ walk text (suc k) t rs
+step : (text : List ℕ) (k : ℕ) (s t : Progress) (r : Row) (rs : List Row) → turn_of s r ≡ Ok t → walk text k s (r ∷ rs) ≡ walk text (suc k) t rs
 step text k s t r rs turned = rw turned refl
 
 field_behind : (before : List (List ℕ)) (n : List ℕ) (names : List (List ℕ)) → field (before ++ n ∷ names) (length before) ≡ n
@@ -88,7 +88,7 @@ walk_ways text k e (w ∷ ws) lawful many good few =
     ∙ ap (λ ways. Ok (record { contents = record { places = e.contents.places; ways = ways }; names = e.names })) (append_assoc e.contents.ways (w ∷ []) ws)
 
 -- the rows of places enter them with their names, and the walk goes on with the other rows
-abbrev Onward : List ℕ → ℕ → Read → List Row → Read → List Row → Type 0
+abbrev Onward : List ℕ → ℕ → Progress → List Row → Progress → List Row → Type 0
 Onward text k s rows t rest = (j : ℕ) × (walk text k s rows ≡ walk text j t rest)
 
 walk_places : (text : List ℕ) (k : ℕ) (all later : List (List ℕ)) (e : NamedContents) (ps : List Place) (rest : List Row) → e.names ++ later ≡ all → length later ≡ length ps

@@ -25,7 +25,7 @@ use Rattle.survey_text.specs.Fields.{end_check, word_of_field}
 use Rattle.survey_text.specs.Lines.{row_line}
 use Rattle.survey_text.specs.Names.{texts, name_of, end_of}
 
--- what was entered: the contents of a draft, and the names of its places by their numbers
+-- the contents of a survey, and the names of its places by their numbers
 pub record NamedContents : Type 0 where
   pub contents : Contents
   pub names : List (List ℕ)
@@ -99,16 +99,16 @@ says_nothing r = is_none (first_filled r) || begins_with_hash (field r 0)
 abbrev pub is_heading : Row → Bool
 is_heading r = bytes_eq (field r 0) place_word && bytes_eq (field r 1) name_word
 
--- where a reading stands: what was entered, and whether a row has said something
-pub record Read : Type 0 where
+-- how far a reading has come: what was entered, and whether a row has said something
+pub record Progress : Type 0 where
   pub so_far : NamedContents
   pub is_begun : Bool
 
-abbrev pub in_rows : NamedContents → Read
+abbrev pub in_rows : NamedContents → Progress
 in_rows e = record { so_far = e; is_begun = true }
 
 -- one row: each field has to be a text; the first row that says something may be the heading
-abbrev pub turn_of : Read → Row → Result Read Cause
+abbrev pub turn_of : Progress → Row → Result Progress Cause
 turn_of s r =
     then (row_check r) (λ _.
     cond (says_nothing r) (Ok s)
@@ -139,17 +139,17 @@ abbrev pub trouble_of : List ℕ → ℕ → Row → Cause → Trouble
 trouble_of text k r cause = trouble_on (row_line text k) r cause
 
 -- a cause, told as the trouble of a row
-abbrev pub with_trouble : List ℕ → ℕ → Row → Result Read Cause → Result Read Trouble
+abbrev pub with_trouble : List ℕ → ℕ → Row → Result Progress Cause → Result Progress Trouble
 with_trouble text k r (Ok s) = Ok s
 with_trouble text k r (Err cause) = Err (trouble_of text k r cause)
 
 -- the rows from the one with this number on, in their order, up to the first trouble
-abbrev pub walk : List ℕ → ℕ → Read → List Row → Result NamedContents Trouble
+abbrev pub walk : List ℕ → ℕ → Progress → List Row → Result NamedContents Trouble
 walk text k s [] = Ok s.so_far
 walk text k s (r ∷ rs) = then (with_trouble text k r (turn_of s r)) (λ next. walk text (suc k) next rs)
 
 -- nothing is entered at first
-abbrev pub nothing_read : Read
+abbrev pub nothing_read : Progress
 nothing_read = record { so_far = record { contents = no_contents; names = [] }; is_begun = false }
 
 -- what a text says
@@ -160,8 +160,8 @@ survey_of_text text = walk (strip_bom text) 0 nothing_read (records default_conf
 abbrev pub named_contents : SurveyText → NamedContents
 named_contents t = record { contents = contents t.draft; names = texts (vec_items t.names) }
 
-abbrev pub reading : Reading → Read
-reading r = record { so_far = named_contents r.survey; is_begun = r.is_begun }
+abbrev pub progress : Reading → Progress
+progress r = record { so_far = named_contents r.survey; is_begun = r.is_begun }
 
 -- a call that answers r and leaves x does what is wanted: x where that is accepted, else the same cause
 abbrev pub Does : {X E : Type 0} → Result X E → Result (Unit {0}) E → X → Type 0

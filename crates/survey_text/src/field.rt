@@ -15,7 +15,7 @@ use csv::ByteRecord;
 use std::str::from_utf8;
 
 /// A field by its place; what a row does not have is blank.
-pub fn field(row: &ByteRecord, place: usize) -> &[u8]
+pub(crate) fn field(row: &ByteRecord, place: usize) -> &[u8]
     ensures { result.now ≡ field (fields_of row.now) place }
 {
     match row.get(place) {
@@ -25,7 +25,7 @@ pub fn field(row: &ByteRecord, place: usize) -> &[u8]
 }
 
 /// The first field, from a place on, that is not blank.
-pub fn first_filled(row: &ByteRecord, start: usize) -> Option<&[u8]>
+pub(crate) fn first_filled(row: &ByteRecord, start: usize) -> Option<&[u8]>
     ensures { option_map (λ f. f.now) result ≡ first_filled (drop start (fields_of row.now)) }
 {
     for place in start..row.len() {
@@ -52,7 +52,7 @@ fn has_control(field: &[u8]) -> bool
 }
 
 /// A field has to be UTF-8 with no control character.
-pub fn check_text(field: &[u8]) -> Result<(), Cause>
+pub(crate) fn check_text(field: &[u8]) -> Result<(), Cause>
     ensures { result ≡ text_check field.now }
 {
     if !is_text(field) {
@@ -64,8 +64,8 @@ pub fn check_text(field: &[u8]) -> Result<(), Cause>
     Ok(())
 }
 
-/// Each field of a row has to be.
-pub fn check_row(row: &ByteRecord) -> Result<(), Cause>
+/// Each field of a row has to be such a text.
+pub(crate) fn check_row(row: &ByteRecord) -> Result<(), Cause>
     ensures { result ≡ row_check (fields_of row.now) }
 {
     for place in 0..row.len() {
@@ -82,7 +82,7 @@ fn is_digits(field: &[u8]) -> bool
 }
 
 /// Whether a field is one digit or more, and nothing else.
-pub fn is_number(field: &[u8]) -> bool
+pub(crate) fn is_number(field: &[u8]) -> bool
     ensures { result ≡ is_number field.now }
 {
     !field.is_empty() && is_digits(field)
@@ -106,7 +106,7 @@ pub(crate) fn value(digits: &[u8], most: u64) -> Option<u64>
 }
 
 /// The number that a field writes, of at most `most`.
-pub fn number(column: Column, most: u64, field: &[u8]) -> Result<u64, Cause>
+pub(crate) fn number(column: Column, most: u64, field: &[u8]) -> Result<u64, Cause>
     ensures value { result ≡ number_of column most field.now }
     ensures low { IfOk result (λ n. n ≤ most) }
 {
@@ -123,7 +123,7 @@ pub fn number(column: Column, most: u64, field: &[u8]) -> Result<u64, Cause>
 }
 
 /// The price of a repeater; a blank is no repeater.
-pub fn repeater(column: Column, field: &[u8]) -> Result<Option<u32>, Cause>
+pub(crate) fn repeater(column: Column, field: &[u8]) -> Result<Option<u32>, Cause>
     ensures { result ≡ repeater_of column field.now }
 {
     if field.is_empty() {
@@ -134,7 +134,7 @@ pub fn repeater(column: Column, field: &[u8]) -> Result<Option<u32>, Cause>
 }
 
 /// The letter of a cable, a field of one byte.
-pub fn letter(field: &[u8]) -> Result<char, Cause>
+pub(crate) fn letter(field: &[u8]) -> Result<char, Cause>
     ensures { result ≡ letter_of field.now }
 {
     match field {
@@ -145,7 +145,7 @@ pub fn letter(field: &[u8]) -> Result<char, Cause>
 }
 
 /// Nothing may stand behind the last field of a row.
-pub fn check_end(last: Column, row: &ByteRecord) -> Result<(), Cause>
+pub(crate) fn check_end(last: Column, row: &ByteRecord) -> Result<(), Cause>
     ensures { result ≡ end_check last (fields_of row.now) }
 {
     match first_filled(row, last.index() + 1) {

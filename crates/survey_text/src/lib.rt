@@ -1,4 +1,8 @@
-//! Surveys as CSV text, as an estimator types them or a spreadsheet saves them: read whole, or told by line and cause.
+//! Surveys as CSV text, as an estimator types them or a spreadsheet saves them: read whole, or told by line and cause,
+//! and written back.
+//!
+//! `read::read` gives a draft and the names of its places, or the first trouble; `write::write` gives the text of a
+//! sealed survey with names, which reads as that survey with those names. docs/SURVEY-TEXT.md has the text to the letter.
 #![tactic(auto)]
 
 mod field;

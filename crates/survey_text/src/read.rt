@@ -67,9 +67,9 @@ fn read_rows(
     Ok(Ok(reading.survey))
 }
 
-/// The survey that a text says, with the names of its places, or the first trouble.
+/// The survey that a text says, with the names of its places, or the first trouble. The names are lawful.
 ///
-/// The outer error is want of memory.
+/// The outer error is want of memory; over bytes in memory csv's reader gives no other.
 pub fn read(alloc: Global, text: &[u8]) -> Result<Result<SurveyText, Trouble>, AllocError>
     ensures ok { IfOk result (λ r. IfOk r (λ s. survey_of_text text.now ≡ Ok (named_contents s))) }
     ensures lawful { IfOk result (λ r. IfOk r (λ s. is_lawful (named_contents s) ≡ true)) }

@@ -7,7 +7,7 @@ use crate::field::check_row;
 use crate::row::{is_heading, says_nothing};
 use crate::text::SurveyText;
 use crate::trouble::Cause;
-use csv::{ByteRecord, ReaderBuilder};
+use csv::{ByteRecord, ErrorKind, ReaderBuilder};
 use std::alloc::{AllocError, Global};
 
 // A survey that is being read, and whether a row has said something.
@@ -40,18 +40,22 @@ pub(crate) fn rows_of(alloc: Global, text: &[u8]) -> Result<Vec<ByteRecord>, All
     for row in reader.into_byte_records() {
         match row {
             Ok(row) => rows.push(row)?,
-            Err(_) => return Err(AllocError),
+            Err(error) => {
+                // Rows may have any length, so nothing but the reader underneath or memory can fail.
+                prove!(matches!(error.kind(), ErrorKind::Io(_) | ErrorKind::OutOfMemory));
+                return Err(AllocError);
+            }
         }
     }
     Ok(rows)
 }
 
 impl Reading {
-    ghost use Rattle.survey_text.specs.Texts.{reading, nothing_read, turn_of, Does};
+    ghost use Rattle.survey_text.specs.Texts.{progress, nothing_read, turn_of, Does};
 
     // Nothing is read.
     pub(crate) fn new(alloc: Global) -> Result<Reading, AllocError>
-        ensures { IfOk result (λ r. reading r ≡ nothing_read) }
+        ensures { IfOk result (λ r. progress r ≡ nothing_read) }
     {
         let survey = SurveyText::new(alloc)?;
         Ok(Reading {
@@ -66,7 +70,7 @@ impl Reading {
         alloc: Global,
         row: &ByteRecord,
     ) -> Result<Result<(), Cause>, AllocError>
-        ensures { IfOk result (λ r. Does (turn_of (reading self.old) (fields_of row.now)) r (reading self.new)) }
+        ensures { IfOk result (λ r. Does (turn_of (progress self.old) (fields_of row.now)) r (progress self.new)) }
     {
         if let Err(cause) = check_row(row) {
             return Ok(Err(cause));

@@ -105,6 +105,8 @@ fn refusal_words(refusal: Refusal) -> &'static str
     }
 }
 
+impl std::error::Error for Trouble {}
+
 /// A trouble is printed as its line and its cause, in words.
 impl fmt::Display for Trouble {
     ghost output = { λ t. Some (trouble_text t) };

@@ -1,6 +1,6 @@
 -- The worked cases, each by its table; the checks of a draft and the entry of the card are computed.
 use Rattle.std.proofs.Common.{refl}
-use Rattle.sample_house.proofs.Tables.{at_44, at_43, at_33, at_32, at_22, at_21, blank, free, shut, quiet, nowhere}
+use Rattle.sample_house.proofs.Tables.{at_44, at_43, at_33, at_32, at_22, at_21, blank, free, closed, quiet, nowhere}
 use Rattle.sample_house.proofs.worked_cases.Goals as goal
 
 pub returns : goal.returns
@@ -15,7 +15,7 @@ returns c = record {
   at_21 = at_21;
   blank = blank;
   free = free;
-  shut = shut;
+  closed = closed;
   quiet = quiet;
   nowhere = nowhere;
   card = refl;

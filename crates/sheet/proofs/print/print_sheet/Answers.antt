@@ -7,5 +7,6 @@ pub returns : goal.returns
 returns g c =
     let out = c.args.out.now in
     let shown = Shown c.args.survey.now c.args.request c.args.steps.now in
-    let printed : ℕ → Type 0 = λ n. OnOk c.print_page.result (SomePrinted g.W.Write out c.print_page.new.out (shown n)) in
+    let out' = c.print_page.new.out in
+    let printed : ℕ → Type 0 = λ n. OnOk c.print_page.result (SomePrinted g.W.Write out out' (shown n)) in
     subst printed (c.deref_mut.ensures.len ∙ c.in_ok-page.ensures.len) c.print_page.ensures

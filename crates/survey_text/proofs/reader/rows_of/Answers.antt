@@ -22,6 +22,7 @@ loop-row-init c =
       inr (inr (rw (e, h) at fr.has_headers, fr.headers)),
       left,
       rw (e, h) at fr.config ∙ c.new.ensures.config,
+      rw e at fr.flexible,
       strip_bom c.args.text.now,
       fr.source,
       (sym fr.state, refl),
@@ -30,15 +31,16 @@ loop-row-init c =
 pub loop-row-preserved : goal.loop-row-preserved
 loop-row-preserved c =
     let inv = c.loop-row.invariant in
-    let s = rw (c.in-Some.is, c.in-Ok.is) at ((c.next.ensures.steps inv.2 inv.0).0 inv.1) in
+    let steps = rw (c.in-Some.is, c.in-Ok.is) at (c.next.ensures.steps inv.2 inv.0) in
+    let s = steps.0 inv.1 in
     let items = c.in_ok-push-in-Ok.ensures.items in
     let m = rows-more (λ (s : Bor (List ℕ)). Some s.now) c.loop-row.row-iterator.rdr c.next.new.self.rdr (fields_of c.in-Ok.row)
-    default_config st.StartRecord (strip_bom c.args.text.now) inv.4 (map fields_of c.loop-row.rows.items) inv.3 inv.5 inv.6 s.0 in
-    (s.0.3 ∙ inv.0, inl s.1, s.2, s.0.2 ∙ inv.3, m.0, m.1, rw (items, map-append fields_of c.loop-row.rows.items (c.in-Ok.row ∷ [])) m.2)
+    default_config st.StartRecord (strip_bom c.args.text.now) inv.5 (map fields_of c.loop-row.rows.items) inv.3 inv.6 inv.7 s.0 in
+    (s.0.3 ∙ inv.0, inl s.1, s.2, s.0.2 ∙ inv.3, steps.3 ∙ inv.4, m.0, m.1, rw (items, map-append fields_of c.loop-row.rows.items (c.in-Ok.row ∷ [])) m.2)
 
 pub returns : goal.returns
 returns c =
     let inv = c.loop-row.invariant in
     let s = rw c.in-None.is at ((c.next.ensures.steps inv.2 inv.0).0 inv.1) in
-    let none = rows-end (λ (s : Bor (List ℕ)). Some s.now) c.loop-row.row-iterator.rdr c.next.new.self.rdr [] default_config inv.4 inv.3 inv.5 s in
-    records_are (strip_bom c.args.text.now) (map fields_of c.loop-row.rows.items) (c.loop-row.row-iterator.rdr.state, inv.4, inv.6, none)
+    let none = rows-end (λ (s : Bor (List ℕ)). Some s.now) c.loop-row.row-iterator.rdr c.next.new.self.rdr [] default_config inv.5 inv.3 inv.6 s in
+    records_are (strip_bom c.args.text.now) (map fields_of c.loop-row.rows.items) (c.loop-row.row-iterator.rdr.state, inv.5, inv.7, none)

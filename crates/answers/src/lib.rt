@@ -1,0 +1,6 @@
+//! What the programs answer: from the bytes that one reads to the text that it has printed, each as one call.
+#![tactic(auto)]
+
+pub mod desk;
+pub mod line;
+pub mod price;
