@@ -22,7 +22,7 @@ use Rattle.survey.specs.SurveySite.{money_problem}
 use Rattle.sheet.specs.Sheet.{run_line, step_lines, total_line, sheet_text}
 use Rattle.relays.specs.Problem.{RelayProblem, all_open, value}
 use Rattle.relays.proofs.Lawful.{feasible_lawful, money_asked}
-use Rattle.relays.proofs.Totals.{capped, total_capped}
+use Rattle.relays.proofs.Totals.{total_capped}
 use Rattle.answers.specs.Desk.{IsFound, IsPlanText, problem_with}
 use Rattle.answers.specs.Rooms.{IsGivenText, page_room}
 use Rattle.answers.proofs.Replayed.{IsPlanResult}
@@ -46,7 +46,7 @@ module _ (R : RelayProblem) where
   open_lawful p l (s ∷ rest) (w, goes, on) = (
     w,
     record {
-      opens = unshut (R.shut s.way) (P.site.way s.way) w goes.opens;
+      opens = unshut (R.is_shut s.way) (P.site.way s.way) w goes.opens;
       leaves = goes.leaves;
       arrives = goes.arrives;
       marks = mark_open s.mark w.to goes.marks;

@@ -83,7 +83,7 @@ module _ (R : RelayProblem) where
 
 -- the problem over a survey with the ways of a closing book shut
 abbrev pub problem_with : Contents → (ℕ → Bool) → Request → RelayProblem
-problem_with c book q = record { contents = c; shut = book; request = q }
+problem_with c book q = record { contents = c; is_shut = book; request = q }
 
 -- what is beside a call is what it gives, over a survey with the ways of the book shut
 abbrev pub IsRight : Contents → (ℕ → Bool) → Call → Answer Money → Type 0
