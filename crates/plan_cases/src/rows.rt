@@ -4,9 +4,9 @@ ghost use Rattle.plan_cases.specs.Used.{as_many, used_cell, used_queue_row, used
 
 use search::cell::{Cell, CellRow, Link, Reached};
 use search::check::RowCounts;
-use search::owned::alike;
 use std::alloc::{AllocError, Global};
 use subject::charge::Charge;
+use subject::rows::rows_of;
 use subject::run::Step;
 use tree_queue::row::QueueRow;
 
@@ -72,9 +72,9 @@ impl<C: Charge> Rows<C> {
     pub fn used(alloc: Global, counts: RowCounts) -> Result<Rows<C>, AllocError>
         ensures { IfOk result (λ rows. AreUsed C.Charge.nothing counts rows) }
     {
-        let cells = alike(alloc, used_cell(), counts.cells)?;
-        let queue = alike(alloc, used_queue_row(), counts.queue)?;
-        let run = alike(alloc, used_step(), counts.run)?;
+        let cells = rows_of(alloc, used_cell(), counts.cells)?;
+        let queue = rows_of(alloc, used_queue_row(), counts.queue)?;
+        let run = rows_of(alloc, used_step(), counts.run)?;
         Ok(Rows { cells, queue, run })
     }
 }
