@@ -1,5 +1,3 @@
-ghost use Rattle.std.specs.Prelude.{◌≡◌, ◌*◌, IfOk, length, vec_len};
-
 use crate::frame::Tile;
 use crate::pixel::{Point, Px, counted};
 use std::alloc::{AllocError, Global};
