@@ -1,6 +1,6 @@
--- What escaping writes: character by character, and no markup, since each entity has none and any other character that is
--- written is none of the tested ones.
-use Rattle.std.proofs.Common.{◌≡◌, ℕ, Bool, true, false, cond, List, [], ◌∷◌, ◌++◌, length, flat_map, chars, encode_utf8, encode_utf8_all, IsUtf8, codes, eqb, refl, ap, ◌∙◌}
+-- What escaping writes: character by character, and no markup, since each entity has none and any other character
+-- that is written is none of the tested ones.
+use Rattle.std.proofs.Common.{◌≡◌, ℕ, Bool, true, false, cond, List, [], ◌∷◌, ◌++◌, length, flat_map, chars, encode_utf8, encode_utf8_all, IsUtf8, eqb, refl, ap, ◌∙◌}
 use Rattle.std.proofs.lemmas.Str.{chars_past_char, chars-nil, encodes-append}
 use Rattle.std.proofs.lemmas.List.{nil_from_length}
 use Rattle.std.specs.Str.{NonePass}

@@ -4,4 +4,5 @@ use Rattle.std.specs.List.{slice_get}
 
 -- a place that has a layer keeps it
 abbrev pub KeepsLayers : List (Option ℕ) → List (Option ℕ) → Type 0
-KeepsLayers old new = (place layer : ℕ) → slice_get old place ≡ Some (Some layer) → slice_get new place ≡ Some (Some layer)
+KeepsLayers old new =
+    (place layer : ℕ) → slice_get old place ≡ Some (Some layer) → slice_get new place ≡ Some (Some layer)

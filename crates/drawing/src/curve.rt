@@ -3,8 +3,8 @@ use crate::port::{Port, Side};
 use std::alloc::{AllocError, Global};
 use std::fmt;
 
-// How far a curve within a column leads away from it: at least so far, for a short way by half of its distance more, and
-// for a long one by an eighth.
+// How far a curve within a column leads away from it: at least so far, for a short way by half of its distance more,
+// and for a long one by an eighth.
 const LEAST_BULGE: Px = Px(40);
 
 const SHORT_WAY: Px = Px(160);

@@ -146,7 +146,7 @@ fn stack(tiles: &mut [Tile]) -> Px {
     height
 }
 
-// Puts the columns beside each other, each as wide as its widest box; how wide they are, with what is free behind the last.
+// Puts the columns beside each other, each as wide as its widest box; how wide all are, with what is free behind them.
 fn set_columns(tiles: &mut [Tile], spots: &[Spot], ways: &[WayEntry]) -> Px {
     let mut layer = usize::MAX;
     let mut left = Px(0);

@@ -1,5 +1,3 @@
-ghost use Rattle.std.specs.Prelude.{◌≡◌, ◌*◌, IfOk, length, vec_len};
-
 use crate::frame::Tile;
 use crate::pixel::{Point, Px, counted};
 use std::alloc::{AllocError, Global};
@@ -38,8 +36,8 @@ pub struct Port {
 
 /// Both ends of each way: of way `w` where it starts, and behind it where it arrives, all ways by their numbers.
 ///
-/// No two ways end at one point while there is room for them. A way with an end that is no box is left out. Fails only for
-/// want of memory.
+/// No two ways end at one point while there is room for them. A way with an end that is no box is left out. Fails only
+/// for want of memory.
 pub fn ports_of(alloc: Global, tiles: &[Tile], ways: &[WayEntry]) -> Result<Vec<Port>, AllocError> {
     let mut ports = Vec::new(alloc);
     for (number, way) in ways.iter().enumerate() {
