@@ -2,3 +2,4 @@ mod Shown
 mod Plans
 mod Printed
 mod Steps
+pub mod Enough

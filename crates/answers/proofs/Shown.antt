@@ -40,8 +40,8 @@ module _ (P : Problem Money) (steps : List Step) (page : ℕ) (text : List ℕ) 
         | inr late ↦ elim late.1 [
           | inl unlawful ↦ absurd (unlawful.1 lawful)
           | inr long ↦
-            r.1
-            ∙ ap (λ x. refusal_text (Call x)) long.0
-            ∙ sym (cond-false (leb (length sheet) page) _ _ (lt-leb (length sheet) page long.2))
+              r.1
+              ∙ ap (λ x. refusal_text (Call x)) long.0
+              ∙ sym (cond-false (leb (length sheet) page) _ _ (lt-leb (length sheet) page long.2))
         ]
       ]

@@ -1,7 +1,6 @@
 -- What is printed of a plan: the sheet of an optimal path, or the number of the first refusal. Stands on the minimum cost path
 -- problem with relays, on the causes for which a request is refused before any search, and on sheets.
 use Rattle.std.specs.Prelude.{◌≡◌, ℕ, ◌⊎◌, List, length}
-use Rattle.subject.specs.declared.money.Money.{Money}
 use Rattle.subject.specs.declared.refusal.Refusal.{Refusal}
 use Rattle.subject.specs.declared.refusal.Refusal.TheVariants.{NoRun}
 use Rattle.subject.specs.declared.run.Step.{Step}

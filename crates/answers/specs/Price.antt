@@ -46,4 +46,4 @@ IsPriceAnswer input text =
     MatchBool (nat_lt (length input) (file_start input))
     (text ≡ refusal_text (File (fault_of CutShort 0)))
     (FileAnswer (drop (file_start input) input)
-      (λ c. IsStepsAnswer c (request_at input) (steps_in (slice_range input STEPS_START (file_start input))) PAGE) text)
+    (λ c. IsStepsAnswer c (request_at input) (steps_in (slice_range input STEPS_START (file_start input))) PAGE) text)

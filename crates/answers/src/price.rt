@@ -67,10 +67,8 @@ fn read_steps(alloc: Global, bytes: &[u8]) -> Result<Vec<Step>, AllocError>
 
 // Prices the steps over the survey of the file.
 fn answer_parts<W: Write>(alloc: Global, parts: &Parts<'_>, out: &mut W) -> anyhow::Result<()>
-    ensures {
-        OnOk result (SomePrinted W.Write out.old out.new
-            (FileAnswer parts.now.file.now (λ c. IsStepsAnswer c parts.now.request (steps_in parts.now.steps.now) PAGE)))
-    }
+    ensures { OnOk result (SomePrinted W.Write out.old out.new
+        (FileAnswer parts.now.file.now (λ c. IsStepsAnswer c parts.now.request (steps_in parts.now.steps.now) PAGE))) }
 {
     let steps = read_steps(alloc, parts.steps)?;
     match survey_in(alloc, out, parts.file)? {
@@ -98,5 +96,53 @@ pub fn answer<W: Write>(alloc: Global, input: &[u8], out: &mut W) -> anyhow::Res
                 place: 0,
             }),
         ),
+    }
+}
+
+#[cfg(test)]
+mod tests {
+    use super::*;
+    use crate::failing::Failing;
+    use std::test::Fail;
+
+    // A request for a run from the place 0 to 1, a step over the way 0, and a file of these two places and that way.
+    const INPUT: [u8; 40] = [
+        0, 0, 0, 1, 0, 35, 0, 1, 0, 0, 0, 1, 0, 2, 0, 1, 2, 0, 0, 2, 0, 0, 3, 0, 12, 0, 0, 0, 1,
+        85, 1, 0, 10, 0, 0, 1, 44, 4, 0, 0,
+    ];
+
+    const SHEET: &[u8] = b"RUN 0 1 35\n0 0 1 22 -\nTOTAL 300\n";
+
+    #[test]
+    fn a_sheet_is_printed(rt: HostRuntime) -> Result<(), Fail> {
+        let mut out = Vec::new(rt.alloc());
+        assert!(rt; answer(rt.alloc(), &INPUT, &mut out).is_ok());
+        assert_eq!(rt; out.as_slice(), SHEET);
+        Ok(())
+    }
+
+    // There are fewer bytes than eleven steps have.
+    #[test]
+    fn steps_are_cut_short(rt: HostRuntime) -> Result<(), Fail> {
+        let mut input = INPUT;
+        input[7] = 11;
+        let mut out = Vec::new(rt.alloc());
+        assert!(rt; answer(rt.alloc(), &input, &mut out).is_ok());
+        assert_eq!(rt; out.as_slice(), b"REFUSED 1 0\n".as_slice());
+        Ok(())
+    }
+
+    // Wherever the writer fails, the call fails, and the front of the sheet was written.
+    #[test]
+    fn a_writer_fails(rt: HostRuntime) -> Result<(), Fail> {
+        for room in 0..SHEET.len() {
+            let mut out = Failing {
+                taken: Vec::new(rt.alloc()),
+                room,
+            };
+            assert!(rt; answer(rt.alloc(), &INPUT, &mut out).is_err());
+            assert_eq!(rt; out.taken.as_slice(), &SHEET[..room]);
+        }
+        Ok(())
     }
 }
