@@ -1,5 +1,5 @@
--- What two calls print, one behind the other. Where a file is read nothing is printed of it, so that all is what is printed of its
--- contents; where it is refused all is the line of its fault.
+-- What two calls print, one behind the other. Where a file is read nothing is printed of it, so that all is what is
+-- printed of its contents; where it is refused all is the line of its fault.
 use Rattle.std.proofs.Common.{◌≡◌, ℕ, List, [], Some, Ok, Err, Result, sym, subst, arith}
 use Rattle.std.specs.Result.{result_ok}
 use Rattle.std.proofs.KnownBytes.{Appends-trans}

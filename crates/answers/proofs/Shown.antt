@@ -1,4 +1,5 @@
--- The steps of a lawful run, for a request that passes, are shown by their sheet, if it fits on the page: no other cause is left.
+-- The steps of a lawful run, for a request that passes, are shown by their sheet, if it fits on the page: no other
+-- cause is left.
 use Rattle.std.proofs.Common.{◌≡◌, ℕ, ◌≤◌, ◌⊎◌, leb, List, length, sym, ap, ◌∙◌, subst, inl, inr, arith}
 use Rattle.std.proofs.lemmas.Bool.{le-leb, lt-leb, cond-true, cond-false}
 use Rattle.subject.specs.declared.money.Money.{Money}

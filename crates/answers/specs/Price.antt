@@ -1,4 +1,5 @@
--- What the program that prices steps prints, for every input. Stands on requests and steps in bytes, on survey files and on sheets.
+-- What the program that prices steps prints, for every input. Stands on requests and steps in bytes, on survey files
+-- and on sheets.
 use Rattle.std.specs.Prelude.{◌≡◌, ℕ, ◌+◌, ◌*◌, ◌<◌, ◌≤◌, ◌⊎◌, List, [], ◌∷◌, length, drop, ◌==◌, MatchBool, nat_lt, slice_range}
 use Rattle.subject.specs.declared.refusal.Refusal.TheVariants.{CutShort}
 use Rattle.subject.specs.declared.run.Step.{Step}

@@ -1,4 +1,5 @@
-// What programs answer to the bytes that they read: from these to the text that is printed, in one call for each program.
+// What programs answer to the bytes that they read: from these to the text that is printed, in one call for each
+// program.
 #![tactic(auto)]
 
 #[cfg(test)]

@@ -21,8 +21,8 @@ use survey::sealed::Sealed;
 use tree_queue::heap::Heap;
 use tree_queue::row::blank_rows;
 
-/// How many bytes of input there may be: the request and the longest survey file have 17,166, and with forty more a byte
-/// behind such a file is met.
+/// How many bytes of input there may be: the request and the longest survey file have 17,166, and with forty more a
+/// byte behind such a file is met.
 pub const MOST_INPUT: usize = 17206;
 
 /// How many bytes a request has.
@@ -58,10 +58,10 @@ fn print_plan<W: Write, Q: PriorityQueue<Charge = Money>>(
 
 /// Plans a cheapest run over a survey, and prints its sheet, or the line of the first refusal.
 ///
-/// There are `rows` rows of each sort, for which memory is taken, and the sheet may have `page` bytes. Refused are, in this
-/// order, a missing start or end with 14, a wrong bound with 15, fewer rows than places × (bound + 1) with 16, a request
-/// for which no run is feasible with 17, and a sheet that does not fit with 18. An error comes only where memory is not
-/// had or the writer fails.
+/// There are `rows` rows of each sort, for which memory is taken, and the sheet may have `page` bytes. Refused are, in
+/// this order, a missing start or end with 14, a wrong bound with 15, fewer rows than places × (bound + 1) with 16, a
+/// request for which no run is feasible with 17, and a sheet that does not fit with 18. An error comes only where
+/// memory is not had or the writer fails.
 pub fn answer_plan<W: Write>(
     alloc: Global,
     survey: &Sealed,
@@ -70,7 +70,8 @@ pub fn answer_plan<W: Write>(
     page: usize,
     out: &mut W,
 ) -> anyhow::Result<()>
-    ensures { OnOk result (SomePrinted W.Write out.old out.new (IsPlanAnswer (sealed_contents survey.now) request rows page)) }
+    ensures { OnOk result (SomePrinted W.Write out.old out.new
+        (IsPlanAnswer (sealed_contents survey.now) request rows page)) }
 {
     let mut owned = OwnedRows::blank(alloc, rows)?;
     let mut queue_rows = blank_rows(alloc, rows)?;
@@ -94,10 +95,11 @@ fn answer_file<W: Write>(
     }
 }
 
-/// Answers a request and, behind it, a survey file: prints the sheet of a cheapest run, or the line of the first refusal.
+/// Answers a request and, behind it, a survey file: prints the sheet of a cheapest run, or the line of the first
+/// refusal.
 ///
-/// A request that is cut short and a fault of the file are printed with the byte place, and what `answer_plan` refuses by
-/// number alone. An error comes only where memory is not had or the writer fails.
+/// A request that is cut short and a fault of the file are printed with the byte place, and what `answer_plan` refuses
+/// by number alone. An error comes only where memory is not had or the writer fails.
 pub fn answer<W: Write>(alloc: Global, input: &[u8], out: &mut W) -> anyhow::Result<()>
     ensures { OnOk result (SomePrinted W.Write out.old out.new (IsLineAnswer input.now)) }
 {

@@ -19,8 +19,8 @@ pub const STEPS_START: usize = REQUEST_LENGTH + 2;
 /// How many bytes a step has: the way in two, high byte first, and one that is 1 for a mark.
 pub const STEP_LENGTH: usize = 3;
 
-/// How many bytes of input there may be: those of the most steps and of the longest survey file, and one more, so that a
-/// byte behind such a file is met.
+/// How many bytes of input there may be: those of the most steps and of the longest survey file, and one more, so that
+/// a byte behind such a file is met.
 pub const MOST_INPUT: usize = STEPS_START + 65535 * STEP_LENGTH + LONGEST_FILE + 1;
 
 // The input in its parts: the request, the bytes of the steps, and the survey file.
@@ -79,11 +79,11 @@ fn answer_parts<W: Write>(alloc: Global, parts: &Parts<'_>, out: &mut W) -> anyh
 
 /// Prices steps over a survey: prints the sheet of just these steps, or the line of the first refusal.
 ///
-/// The input is a request, the number of the steps in two bytes, high byte first, the steps, and a survey file. Where it
-/// ends before the file begins, it is refused like a file that is cut short at its start. A fault of the file is printed
-/// with the byte place; by number alone are refused a missing start or end with 14, a wrong bound with 15, steps that are
-/// no lawful run for money with 19, and a sheet over 65,536 bytes with 18. An error comes only where memory is not had or
-/// the writer fails.
+/// The input is a request, the number of the steps in two bytes, high byte first, the steps, and a survey file. Where
+/// it ends before the file begins, it is refused like a file that is cut short at its start. A fault of the file is
+/// printed with the byte place; by number alone are refused a missing start or end with 14, a wrong bound with 15,
+/// steps that are no lawful run for money with 19, and a sheet over 65,536 bytes with 18. An error comes only where
+/// memory is not had or the writer fails.
 pub fn answer<W: Write>(alloc: Global, input: &[u8], out: &mut W) -> anyhow::Result<()>
     ensures { OnOk result (SomePrinted W.Write out.old out.new (IsPriceAnswer input.now)) }
 {
