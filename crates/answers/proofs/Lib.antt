@@ -7,3 +7,4 @@ pub mod Replayed
 pub mod Pages
 pub mod Sheets
 pub mod Files
+pub mod Enough

@@ -1,6 +1,6 @@
--- What is printed of a plan. A run that was found is an optimal path with its total, and is lawful, so it is shown by its sheet; a
--- refusal of a plan is the first cause, or says that no path is feasible.
-use Rattle.std.proofs.Common.{◌≡◌, ℕ, ◌⊎◌, List, length, take, Ok, Err, refl, subst, inl, inr}
+-- What is printed of a plan. A run that was found is an optimal path with its total, and is lawful, so it is shown by
+-- its sheet; a refusal of a plan is the first cause, or says that no path is feasible.
+use Rattle.std.proofs.Common.{ℕ, ◌⊎◌, List, take, Ok, Err, refl, subst, inl, inr}
 use Rattle.subject.specs.declared.money.Money.{Money}
 use Rattle.subject.specs.declared.queue.PriorityQueue.{Ghosts as QueueGhosts}
 use Rattle.subject.specs.declared.refusal.Refusal.{Refusal}

@@ -1,5 +1,5 @@
--- What two calls print, one behind the other. Where a file is read nothing is printed of it, so that all is what is printed of its
--- contents; where it is refused all is the line of its fault.
+-- What two calls print, one behind the other. Where a file is read nothing is printed of it, so that all is what is
+-- printed of its contents; where it is refused all is the line of its fault.
 use Rattle.std.proofs.Common.{◌≡◌, ℕ, List, [], Some, Ok, Err, Result, sym, subst, arith}
 use Rattle.std.specs.Result.{result_ok}
 use Rattle.std.proofs.KnownBytes.{Appends-trans}
@@ -22,8 +22,7 @@ module _ {W : Type 0} (w : WriteGhosts W) (out mid after : W) (file : List ℕ) 
       → SomePrinted w mid after (Answer c) → SomePrinted w out after (FileAnswer file Answer)
   read_printed c read nothing printed =
       let is = ok_value (decode file) c read in
-      let none = subst (λ r. IsPrinted w out mid (fault_text r)) is nothing in
-      (
+      let none = subst (λ r. IsPrinted w out mid (fault_text r)) is nothing in (
         printed.0,
         subst (λ r. MatchResult r (λ d. Answer d printed.0) (λ f. printed.0 ≡ refusal_text (File f))) (sym is) printed.1,
         Appends-trans (w.contents out) (w.contents mid) (w.contents after) [] printed.0 none printed.2,

@@ -1,4 +1,5 @@
--- The steps of a lawful run, for a request that passes, are shown by their sheet, if it fits on the page: no other cause is left.
+-- The steps of a lawful run, for a request that passes, are shown by their sheet, if it fits on the page: no other
+-- cause is left.
 use Rattle.std.proofs.Common.{◌≡◌, ℕ, ◌≤◌, ◌⊎◌, leb, List, length, sym, ap, ◌∙◌, subst, inl, inr, arith}
 use Rattle.std.proofs.lemmas.Bool.{le-leb, lt-leb, cond-true, cond-false}
 use Rattle.subject.specs.declared.money.Money.{Money}
@@ -40,8 +41,8 @@ module _ (P : Problem Money) (steps : List Step) (page : ℕ) (text : List ℕ) 
         | inr late ↦ elim late.1 [
           | inl unlawful ↦ absurd (unlawful.1 lawful)
           | inr long ↦
-            r.1
-            ∙ ap (λ x. refusal_text (Call x)) long.0
-            ∙ sym (cond-false (leb (length sheet) page) _ _ (lt-leb (length sheet) page long.2))
+              r.1
+              ∙ ap (λ x. refusal_text (Call x)) long.0
+              ∙ sym (cond-false (leb (length sheet) page) _ _ (lt-leb (length sheet) page long.2))
         ]
       ]

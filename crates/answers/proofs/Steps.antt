@@ -1,4 +1,5 @@
--- The steps in bytes: the first is in the first three, and the others are in the bytes behind; fewer than three have none.
+-- The steps in bytes: the first is in the first three, and the others are in the bytes behind; fewer than three have
+-- none.
 use Rattle.std.proofs.Common.{◌≡◌, ℕ, ◌*◌, ◌+◌, ◌-◌, ◌<◌, ◌≤◌, List, [], ◌∷◌, ◌++◌, length, get_or, take, drop, refl, sym, ap, ◌∙◌, arith}
 use Rattle.std.specs.Prelude.{◌==◌}
 use Rattle.std.proofs.lemmas.List.{append_assoc, append-nil, length-drop, take_all}

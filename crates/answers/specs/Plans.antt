@@ -1,7 +1,6 @@
--- What is printed of a plan: the sheet of an optimal path, or the number of the first refusal. Stands on the minimum cost path
--- problem with relays, on the causes for which a request is refused before any search, and on sheets.
+-- What is printed of a plan: the sheet of an optimal path, or the number of the first refusal. Stands on the minimum
+-- cost path problem with relays, on the causes for which a request is refused before any search, and on sheets.
 use Rattle.std.specs.Prelude.{◌≡◌, ℕ, ◌⊎◌, List, length}
-use Rattle.subject.specs.declared.money.Money.{Money}
 use Rattle.subject.specs.declared.refusal.Refusal.{Refusal}
 use Rattle.subject.specs.declared.refusal.Refusal.TheVariants.{NoRun}
 use Rattle.subject.specs.declared.run.Step.{Step}
@@ -34,7 +33,7 @@ module _ (c : Contents) (q : Request) (counts : RowCounts) where
       FirstCause (length c.places) q counts e
       ⊎ ((e ≡ NoRun) × ChecksPass (length c.places) q counts × NoneFeasible (all_open c q))
 
-  -- the text is the sheet of an optimal path, on a page of so many bytes; or the line of the first refusal, by its number
+  -- the text is the sheet of an optimal path, on a page of so many bytes; or the line of the first refusal, by number
   abbrev pub PlanText : ℕ → List ℕ → Type 0
   PlanText page text =
       ((run : List Step) × PlanFound run × (text ≡ on_page page (sheet_text (money_problem c q) run)))

@@ -1,4 +1,5 @@
--- What the program that prices steps prints, for every input. Stands on requests and steps in bytes, on survey files and on sheets.
+-- What the program that prices steps prints, for every input. Stands on requests and steps in bytes, on survey files
+-- and on sheets.
 use Rattle.std.specs.Prelude.{◌≡◌, ℕ, ◌+◌, ◌*◌, ◌<◌, ◌≤◌, ◌⊎◌, List, [], ◌∷◌, length, drop, ◌==◌, MatchBool, nat_lt, slice_range}
 use Rattle.subject.specs.declared.refusal.Refusal.TheVariants.{CutShort}
 use Rattle.subject.specs.declared.run.Step.{Step}
@@ -46,4 +47,4 @@ IsPriceAnswer input text =
     MatchBool (nat_lt (length input) (file_start input))
     (text ≡ refusal_text (File (fault_of CutShort 0)))
     (FileAnswer (drop (file_start input) input)
-      (λ c. IsStepsAnswer c (request_at input) (steps_in (slice_range input STEPS_START (file_start input))) PAGE) text)
+    (λ c. IsStepsAnswer c (request_at input) (steps_in (slice_range input STEPS_START (file_start input))) PAGE) text)

@@ -1,5 +1,5 @@
--- Texts that programs print: a sheet that has to fit on a page, and what is printed of a survey file. Stands on refusal lines and
--- on the decoder of survey files.
+-- Texts that programs print: a sheet that has to fit on a page, and what is printed of a survey file. Stands on
+-- refusal lines and on the decoder of survey files.
 use Rattle.std.specs.Prelude.{◌≡◌, ℕ, cond, List, length, MatchResult, nat_le}
 use Rattle.subject.specs.declared.refusal.Refusal.TheVariants.{NoRoom}
 use Rattle.survey.specs.Contents.{Contents}

@@ -2,5 +2,7 @@
 #![tactic(auto)]
 
 pub mod desk;
+#[cfg(test)]
+mod failing;
 pub mod line;
 pub mod price;

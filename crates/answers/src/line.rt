@@ -21,8 +21,8 @@ use survey::sealed::Sealed;
 use tree_queue::heap::Heap;
 use tree_queue::row::blank_rows;
 
-/// How many bytes of input there may be: the request and the longest survey file have 17,166, and with forty more a byte
-/// behind such a file is met.
+/// How many bytes of input there may be: the request and the longest survey file have 17,166, and with forty more a
+/// byte behind such a file is met.
 pub const MOST_INPUT: usize = 17206;
 
 /// How many bytes a request has.
@@ -40,10 +40,8 @@ fn print_plan<W: Write, Q: PriorityQueue<Charge = Money>>(
     page: usize,
     out: &mut W,
 ) -> anyhow::Result<()>
-    ensures {
-        OnOk result (SomePrinted W.Write out.old out.new
-            (PlanText (sealed_contents survey.now) request (counts_of Q.PriorityQueue (lent_memory memory.old)) page))
-    }
+    ensures { OnOk result (SomePrinted W.Write out.old out.new
+        (PlanText (sealed_contents survey.now) request (counts_of Q.PriorityQueue (lent_memory memory.old)) page)) }
 {
     match plan_for_money(survey, request, memory) {
         Ok(planned) => print_sheet(
@@ -60,10 +58,10 @@ fn print_plan<W: Write, Q: PriorityQueue<Charge = Money>>(
 
 /// Plans a cheapest run over a survey, and prints its sheet, or the line of the first refusal.
 ///
-/// There are `rows` rows of each sort, for which memory is taken, and the sheet may have `page` bytes. Refused are, in this
-/// order, a missing start or end with 14, a wrong bound with 15, fewer rows than places × (bound + 1) with 16, a request
-/// for which no run is feasible with 17, and a sheet that does not fit with 18. An error comes only where memory is not
-/// had or the writer fails.
+/// There are `rows` rows of each sort, for which memory is taken, and the sheet may have `page` bytes. Refused are, in
+/// this order, a missing start or end with 14, a wrong bound with 15, fewer rows than places × (bound + 1) with 16, a
+/// request for which no run is feasible with 17, and a sheet that does not fit with 18. An error comes only where
+/// memory is not had or the writer fails.
 pub fn answer_plan<W: Write>(
     alloc: Global,
     survey: &Sealed,
@@ -72,9 +70,8 @@ pub fn answer_plan<W: Write>(
     page: usize,
     out: &mut W,
 ) -> anyhow::Result<()>
-    ensures {
-        OnOk result (SomePrinted W.Write out.old out.new (IsPlanAnswer (sealed_contents survey.now) request rows page))
-    }
+    ensures { OnOk result (SomePrinted W.Write out.old out.new
+        (IsPlanAnswer (sealed_contents survey.now) request rows page)) }
 {
     let mut owned = OwnedRows::blank(alloc, rows)?;
     let mut queue_rows = blank_rows(alloc, rows)?;
@@ -89,10 +86,8 @@ fn answer_file<W: Write>(
     file: &[u8],
     out: &mut W,
 ) -> anyhow::Result<()>
-    ensures {
-        OnOk result (SomePrinted W.Write out.old out.new
-            (FileAnswer file.now (λ c. IsPlanAnswer c request ROWS PAGE)))
-    }
+    ensures { OnOk result (SomePrinted W.Write out.old out.new
+        (FileAnswer file.now (λ c. IsPlanAnswer c request ROWS PAGE))) }
 {
     match survey_in(alloc, out, file)? {
         Some(survey) => answer_plan(alloc, &survey, request, ROWS, PAGE, out),
@@ -100,15 +95,64 @@ fn answer_file<W: Write>(
     }
 }
 
-/// Answers a request and, behind it, a survey file: prints the sheet of a cheapest run, or the line of the first refusal.
+/// Answers a request and, behind it, a survey file: prints the sheet of a cheapest run, or the line of the first
+/// refusal.
 ///
-/// A request that is cut short and a fault of the file are printed with the byte place, and what `answer_plan` refuses by
-/// number alone. An error comes only where memory is not had or the writer fails.
+/// A request that is cut short and a fault of the file are printed with the byte place, and what `answer_plan` refuses
+/// by number alone. An error comes only where memory is not had or the writer fails.
 pub fn answer<W: Write>(alloc: Global, input: &[u8], out: &mut W) -> anyhow::Result<()>
     ensures { OnOk result (SomePrinted W.Write out.old out.new (IsLineAnswer input.now)) }
 {
     match request_in(input) {
         Ok(request) => answer_file(alloc, request, &input[REQUEST_LENGTH..], out),
         Err(fault) => print_refusal(out, Refused::File(fault)),
+    }
+}
+
+#[cfg(test)]
+mod tests {
+    use super::*;
+    use crate::failing::Failing;
+    use std::test::Fail;
+
+    // A request for a run from the place 0 to 1, and a file of these two places and a way between them.
+    const INPUT: [u8; 35] = [
+        0, 0, 0, 1, 0, 35, 1, 0, 2, 0, 1, 2, 0, 0, 2, 0, 0, 3, 0, 12, 0, 0, 0, 1, 85, 1, 0, 10, 0,
+        0, 1, 44, 4, 0, 0,
+    ];
+
+    const SHEET: &[u8] = b"RUN 0 1 35\n0 0 1 22 -\nTOTAL 300\n";
+
+    #[test]
+    fn a_sheet_is_printed(rt: HostRuntime) -> Result<(), Fail> {
+        let mut out = Vec::new(rt.alloc());
+        assert!(rt; answer(rt.alloc(), &INPUT, &mut out).is_ok());
+        assert_eq!(rt; out.as_slice(), SHEET);
+        Ok(())
+    }
+
+    // The way loses 22, which is over the bound: no run is feasible.
+    #[test]
+    fn a_refusal_is_printed(rt: HostRuntime) -> Result<(), Fail> {
+        let mut input = INPUT;
+        input[5] = 21;
+        let mut out = Vec::new(rt.alloc());
+        assert!(rt; answer(rt.alloc(), &input, &mut out).is_ok());
+        assert_eq!(rt; out.as_slice(), b"REFUSED 17\n".as_slice());
+        Ok(())
+    }
+
+    // Wherever the writer fails, the call fails, and the front of the sheet was written.
+    #[test]
+    fn a_writer_fails(rt: HostRuntime) -> Result<(), Fail> {
+        for room in 0..SHEET.len() {
+            let mut out = Failing {
+                taken: Vec::new(rt.alloc()),
+                room,
+            };
+            assert!(rt; answer(rt.alloc(), &INPUT, &mut out).is_err());
+            assert_eq!(rt; out.taken.as_slice(), &SHEET[..room]);
+        }
+        Ok(())
     }
 }

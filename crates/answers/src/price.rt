@@ -19,8 +19,8 @@ pub const STEPS_START: usize = REQUEST_LENGTH + 2;
 /// How many bytes a step has: the way in two, high byte first, and one that is 1 for a mark.
 pub const STEP_LENGTH: usize = 3;
 
-/// How many bytes of input there may be: those of the most steps and of the longest survey file, and one more, so that a
-/// byte behind such a file is met.
+/// How many bytes of input there may be: those of the most steps and of the longest survey file, and one more, so that
+/// a byte behind such a file is met.
 pub const MOST_INPUT: usize = STEPS_START + 65535 * STEP_LENGTH + LONGEST_FILE + 1;
 
 // The input in its parts: the request, the bytes of the steps, and the survey file.
@@ -67,10 +67,8 @@ fn read_steps(alloc: Global, bytes: &[u8]) -> Result<Vec<Step>, AllocError>
 
 // Prices the steps over the survey of the file.
 fn answer_parts<W: Write>(alloc: Global, parts: &Parts<'_>, out: &mut W) -> anyhow::Result<()>
-    ensures {
-        OnOk result (SomePrinted W.Write out.old out.new
-            (FileAnswer parts.now.file.now (λ c. IsStepsAnswer c parts.now.request (steps_in parts.now.steps.now) PAGE)))
-    }
+    ensures { OnOk result (SomePrinted W.Write out.old out.new
+        (FileAnswer parts.now.file.now (λ c. IsStepsAnswer c parts.now.request (steps_in parts.now.steps.now) PAGE))) }
 {
     let steps = read_steps(alloc, parts.steps)?;
     match survey_in(alloc, out, parts.file)? {
@@ -81,11 +79,11 @@ fn answer_parts<W: Write>(alloc: Global, parts: &Parts<'_>, out: &mut W) -> anyh
 
 /// Prices steps over a survey: prints the sheet of just these steps, or the line of the first refusal.
 ///
-/// The input is a request, the number of the steps in two bytes, high byte first, the steps, and a survey file. Where it
-/// ends before the file begins, it is refused like a file that is cut short at its start. A fault of the file is printed
-/// with the byte place; by number alone are refused a missing start or end with 14, a wrong bound with 15, steps that are
-/// no lawful run for money with 19, and a sheet over 65,536 bytes with 18. An error comes only where memory is not had or
-/// the writer fails.
+/// The input is a request, the number of the steps in two bytes, high byte first, the steps, and a survey file. Where
+/// it ends before the file begins, it is refused like a file that is cut short at its start. A fault of the file is
+/// printed with the byte place; by number alone are refused a missing start or end with 14, a wrong bound with 15,
+/// steps that are no lawful run for money with 19, and a sheet over 65,536 bytes with 18. An error comes only where
+/// memory is not had or the writer fails.
 pub fn answer<W: Write>(alloc: Global, input: &[u8], out: &mut W) -> anyhow::Result<()>
     ensures { OnOk result (SomePrinted W.Write out.old out.new (IsPriceAnswer input.now)) }
 {
@@ -98,5 +96,53 @@ pub fn answer<W: Write>(alloc: Global, input: &[u8], out: &mut W) -> anyhow::Res
                 place: 0,
             }),
         ),
+    }
+}
+
+#[cfg(test)]
+mod tests {
+    use super::*;
+    use crate::failing::Failing;
+    use std::test::Fail;
+
+    // A request for a run from the place 0 to 1, a step over the way 0, and a file of these two places and that way.
+    const INPUT: [u8; 40] = [
+        0, 0, 0, 1, 0, 35, 0, 1, 0, 0, 0, 1, 0, 2, 0, 1, 2, 0, 0, 2, 0, 0, 3, 0, 12, 0, 0, 0, 1,
+        85, 1, 0, 10, 0, 0, 1, 44, 4, 0, 0,
+    ];
+
+    const SHEET: &[u8] = b"RUN 0 1 35\n0 0 1 22 -\nTOTAL 300\n";
+
+    #[test]
+    fn a_sheet_is_printed(rt: HostRuntime) -> Result<(), Fail> {
+        let mut out = Vec::new(rt.alloc());
+        assert!(rt; answer(rt.alloc(), &INPUT, &mut out).is_ok());
+        assert_eq!(rt; out.as_slice(), SHEET);
+        Ok(())
+    }
+
+    // There are fewer bytes than eleven steps have.
+    #[test]
+    fn steps_are_cut_short(rt: HostRuntime) -> Result<(), Fail> {
+        let mut input = INPUT;
+        input[7] = 11;
+        let mut out = Vec::new(rt.alloc());
+        assert!(rt; answer(rt.alloc(), &input, &mut out).is_ok());
+        assert_eq!(rt; out.as_slice(), b"REFUSED 1 0\n".as_slice());
+        Ok(())
+    }
+
+    // Wherever the writer fails, the call fails, and the front of the sheet was written.
+    #[test]
+    fn a_writer_fails(rt: HostRuntime) -> Result<(), Fail> {
+        for room in 0..SHEET.len() {
+            let mut out = Failing {
+                taken: Vec::new(rt.alloc()),
+                room,
+            };
+            assert!(rt; answer(rt.alloc(), &INPUT, &mut out).is_err());
+            assert_eq!(rt; out.taken.as_slice(), &SHEET[..room]);
+        }
+        Ok(())
     }
 }

@@ -1,4 +1,5 @@
-// Reads a request, steps and a survey file from standard input, and prints the sheet of just these steps, or why it is refused.
+// Reads a request, steps and a survey file from standard input, and prints the sheet of just these steps, or why it is
+// refused.
 #![tactic(auto)]
 
 use answers::price::{MOST_INPUT, answer};

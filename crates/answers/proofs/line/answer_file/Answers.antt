@@ -19,5 +19,5 @@ returns-in-Some g c =
     ap (option_map sealed_contents) (sym c.in-Some.is) ∙ told.survey in
     on_ok_weaker c.answer_plan.result
     (read_printed g.W.Write c.args.out.now c.survey_in.new.out c.answer_plan.new.out c.args.file.now
-      (λ d. IsPlanAnswer d c.args.request ROWS PAGE) contents read told.printed)
+    (λ d. IsPlanAnswer d c.args.request ROWS PAGE) contents read told.printed)
     c.answer_plan.ensures

@@ -1,5 +1,4 @@
 -- What is printed is what is shown of the first run rows, or the line of the refusal.
-use Rattle.std.proofs.Common.{take}
 use Rattle.std.proofs.lemmas.Result.{on_ok_weaker}
 use Rattle.survey.specs.Sealing.{sealed_contents}
 use Rattle.search.specs.Memories.{lent_memory}
@@ -17,7 +16,7 @@ returns-in-Ok g c =
     (λ printed. (
       printed.0,
       found_text (sealed_contents c.args.survey.now) c.args.request g.Q.PriorityQueue before after c.in-Ok.planned
-      c.args.page printed.0 told.plan told.answer printed.1,
+          c.args.page printed.0 told.plan told.answer printed.1,
       printed.2,
     ))
     c.print_sheet.ensures
@@ -31,7 +30,7 @@ returns-in-Err g c =
     (λ printed. (
       refusal_text (Call c.in-Err.refusal),
       refused_text (sealed_contents c.args.survey.now) c.args.request g.Q.PriorityQueue before after c.in-Err.refusal
-      c.args.page told.plan told.answer,
+          c.args.page told.plan told.answer,
       printed,
     ))
     c.print_refusal.ensures

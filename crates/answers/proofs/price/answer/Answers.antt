@@ -1,6 +1,6 @@
 -- The parts are those of the input.
-use Rattle.std.proofs.Common.{◌≡◌, ℕ, List, length, drop, false, sym, subst}
-use Rattle.std.specs.Prelude.{MatchBool, nat_lt, slice_range}
+use Rattle.std.proofs.Common.{◌≡◌, ℕ, List, length, drop, sym, subst}
+use Rattle.std.specs.Prelude.{MatchBool, slice_range}
 use Rattle.std.proofs.lemmas.Bool.{le-ltb}
 use Rattle.std.proofs.lemmas.Result.{on_ok_weaker}
 use Rattle.subject.specs.declared.refusal.Refusal.TheVariants.{CutShort}
@@ -27,7 +27,7 @@ whole input q bytes file text p answer =
     let of_steps = subst (λ b. Answered q b (drop start input) text) p.steps of_file in
     let of_request = subst (λ r. Answered r (slice_range input STEPS_START start) (drop start input) text) p.request of_steps in
     subst (λ b. MatchBool b (text ≡ refusal_text (File (fault_of CutShort 0)))
-      (Answered (request_at input) (slice_range input STEPS_START start) (drop start input) text))
+    (Answered (request_at input) (slice_range input STEPS_START start) (drop start input) text))
     (sym (le-ltb (length input) start p.long)) of_request
 
 pub returns-in-Some : goal.returns-in-Some

@@ -20,7 +20,7 @@ returns-in-Some g c =
     let steps = c.deref.ensures.value ∙ c.in_ok-steps.ensures in
     on_ok_weaker c.print_sheet.result
     (λ printed.
-      read_printed g.W.Write c.args.out.now c.survey_in.new.out c.print_sheet.new.out parts.file.now
-      (λ d. IsStepsAnswer d parts.request (steps_in parts.steps.now) PAGE) contents read told.printed
-      (printed.0, subst (λ s. IsStepsAnswer contents parts.request s PAGE printed.0) steps printed.1, printed.2))
+    read_printed g.W.Write c.args.out.now c.survey_in.new.out c.print_sheet.new.out parts.file.now
+    (λ d. IsStepsAnswer d parts.request (steps_in parts.steps.now) PAGE) contents read told.printed
+    (printed.0, subst (λ s. IsStepsAnswer contents parts.request s PAGE printed.0) steps printed.1, printed.2))
     c.print_sheet.ensures
