@@ -1,6 +1,6 @@
--- Where there are rows for the largest bound, a request is refused for what speaks against it by itself, since a smaller bound
--- needs no more rows; and a request that passes is not refused for that.
-use Rattle.std.proofs.Common.{◌≡◌, ℕ, ◌+◌, ◌*◌, ◌<◌, ◌≤◌, List, [], ◌∷◌, inl, inr, mul-le-mul, refl, arith}
+-- Where there are rows for the largest bound, a request is refused for what speaks against it by itself, since a
+-- smaller bound needs no more rows; and a request that passes is not refused for that.
+use Rattle.std.proofs.Common.{ℕ, ◌+◌, ◌*◌, ◌≤◌, List, [], ◌∷◌, inl, inr, mul-le-mul, arith}
 use Rattle.std.specs.List.{AllByRecursion}
 use Rattle.subject.specs.declared.money.Money.{Money}
 use Rattle.subject.specs.declared.refusal.Refusal.{Refusal}

@@ -1,5 +1,5 @@
 -- What comes after a survey was read is all that is printed, since nothing is printed for a file that is read.
-use Rattle.std.proofs.Common.{◌≡◌, List, [], ℕ, MatchResult, Some, None, Ok, Err, Option, Result, sym, subst}
+use Rattle.std.proofs.Common.{◌≡◌, List, [], ℕ, MatchResult, Some, None, Ok, Err, Option, Result, subst}
 use Rattle.std.proofs.KnownBytes.{Appends-trans}
 use Rattle.std.specs.declared.io.Write.{Ghosts as WriteGhosts}
 use Rattle.std.specs.Result.{result_ok}

@@ -1,15 +1,13 @@
--- The sheet of a lawful run over a survey fits its page: each line has fewer than 128 bytes, since the numbers in it have at most
--- twenty digits. By induction over the steps.
-use Rattle.std.proofs.Common.{◌≡◌, ℕ, ◌+◌, ◌*◌, ◌^◌, ◌<◌, ◌≤◌, Bool, true, false, List, [], ◌∷◌, ◌++◌, length, decimal, codes, Some, None, Option, inl, inr, sym, ap, ◌∙◌, subst, arith}
+-- The sheet of a lawful run over a survey fits its page: each line has fewer than 128 bytes, since the numbers in
+-- it have at most twenty digits. By induction over the steps.
+use Rattle.std.proofs.Common.{◌≡◌, ℕ, ◌+◌, ◌*◌, ◌^◌, ◌<◌, ◌≤◌, Bool, true, false, List, [], ◌∷◌, ◌++◌, length, decimal, codes, Some, None, Option, inl, inr, sym, ◌∙◌, subst, arith}
 use Rattle.std.proofs.lemmas.List.{length-append}
 use Rattle.std.proofs.lemmas.Bool.{cases_lt}
 use Rattle.std.proofs.lemmas.Fmt.{length-decimal-le}
 use Rattle.subject.specs.declared.money.Money.{Money}
-use Rattle.subject.specs.declared.money.TheConstants.{CEILING}
 use Rattle.subject.specs.declared.run.Request.{Request}
 use Rattle.subject.specs.declared.run.Step.{Step}
 use Rattle.subject.specs.declared.run.TheConstants.{MOST_BOUND}
-use Rattle.subject.specs.declared.site.TheConstants.{MOST_PLACES, MOST_WAYS}
 use Rattle.subject.specs.declared.way.Way.{Way}
 use Rattle.subject.specs.Moneys.{amount}
 use Rattle.subject.specs.Problems.{Problem}

@@ -1,5 +1,6 @@
--- What a replay writes beside the listed calls, and what the plan behind them gives, is right. A promised plan gives an optimal path
--- or says that none is feasible; the rows suffice for each plan, and each call leaves as many as it found.
+-- What a replay writes beside the listed calls, and what the plan behind them gives, is right. A promised plan
+-- gives an optimal path or says that none is feasible; the rows suffice for each plan, and each call leaves as
+-- many as it found.
 use Rattle.std.proofs.Common.{◌≡◌, ℕ, ◌+◌, ◌*◌, ◌≤◌, Bool, List, [], ◌∷◌, length, take, Ok, Err, Result, inl, inr, refl, sym, ap, ◌∙◌, subst, arith}
 use Rattle.std.proofs.lemmas.List.{length-take-le}
 use Rattle.std.specs.List.{AllByRecursion}

@@ -1,6 +1,6 @@
--- What is printed for a right plan is the sheet of its run, or the line of its refusal: a run that is lawful over the open ways is
--- lawful over the survey, its total is what it costs, and its sheet fits the page.
-use Rattle.std.proofs.Common.{◌≡◌, ℕ, ◌+◌, ◌*◌, ◌^◌, ◌<◌, ◌≤◌, ◌⊎◌, min, Bool, true, false, cond, List, [], ◌∷◌, ◌++◌, length, take, Some, None, Ok, Err, Option, Result, inl, inr, refl, sym, ap, ◌∙◌, subst, mul-le-mul, arith}
+-- What is printed for a right plan is the sheet of its run, or the line of its refusal: a run that is lawful over
+-- the open ways is lawful over the survey, its total is what it costs, and its sheet fits the page.
+use Rattle.std.proofs.Common.{◌≡◌, ℕ, ◌+◌, ◌*◌, ◌^◌, ◌<◌, ◌≤◌, min, Bool, true, false, cond, List, [], ◌∷◌, length, take, Some, None, Ok, Err, Option, Result, inl, inr, sym, ap, ◌∙◌, subst, mul-le-mul, arith}
 use Rattle.std.specs.Result.{ForOk}
 use Rattle.std.proofs.lemmas.List.{length-take-le}
 use Rattle.subject.specs.declared.money.Money.{Money}
@@ -15,16 +15,14 @@ use Rattle.subject.specs.Problems.{Problem}
 use Rattle.subject.specs.Runs.{IsMarkAllowed, IsLawful, IsRun, loss_after, total}
 use Rattle.planner.specs.declared.plan.Planned.{Planned}
 use Rattle.survey.specs.declared.sealed.Sealed.{Sealed}
-use Rattle.survey.specs.Contents.{Contents}
 use Rattle.survey.specs.Sealing.{sealed_contents}
 use Rattle.survey.specs.SiteBounds.{sealed_bounded}
 use Rattle.survey.specs.SurveySite.{money_problem}
-use Rattle.sheet.specs.Sheet.{run_line, step_lines, total_line, sheet_text}
 use Rattle.relays.specs.Problem.{RelayProblem, all_open, value}
 use Rattle.relays.proofs.Lawful.{feasible_lawful, money_asked}
 use Rattle.relays.proofs.Totals.{total_capped}
 use Rattle.answers.specs.Desk.{IsFound, IsPlanText, problem_with}
-use Rattle.answers.specs.Rooms.{IsGivenText, page_room}
+use Rattle.answers.specs.Rooms.{IsGivenText}
 use Rattle.answers.proofs.Replayed.{IsPlanResult}
 use Rattle.answers.proofs.Causes.{not_cause}
 use Rattle.answers.proofs.Pages.{sheet_fits}

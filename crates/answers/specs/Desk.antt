@@ -1,5 +1,5 @@
--- What a desk prints for the bytes of a survey file and of a text of calls. Stands on what a survey file says, on the texts of
--- calls, on the closing book, on the minimum cost path problem with relays, and on sheets.
+-- What a desk prints for the bytes of a survey file and of a text of calls. Stands on what a survey file says, on the
+-- texts of calls, on the closing book, on the minimum cost path problem with relays, and on sheets.
 use Rattle.std.specs.Prelude.{◌≡◌, ℕ, ◌⊎◌, Bool, List, [], ◌∷◌, ◌++◌, length, flat_map, codes, decimal, MatchResult}
 use Rattle.subject.specs.declared.money.Money.{Money}
 use Rattle.subject.specs.declared.refusal.Refusal.{Refusal}
@@ -97,8 +97,8 @@ AllRight c book [] = Unit {0}
 AllRight c book (e ∷ es) =
     IsRight c book e.call e.answer × AllRight c (after_call (length c.ways) book e.call) es
 
--- the text is what is printed for listed calls and a plan behind them, over a survey with every way open at first: a line for
--- each listed call with what it gave, and then the text of the plan
+-- the text is what is printed for listed calls and a plan behind them, over a survey with every way open at first: a line
+-- for each listed call with what it gave, and then the text of the plan
 pub record IsReplayText (c : Contents) (calls : List Call) (last : Request) (text : List ℕ) : Type 0 where
   pub entries : List (Entry Money)
   pub plan : List ℕ
@@ -124,8 +124,8 @@ pub record IsTried (c : Contents) (text printed : List ℕ) : Type 0 where
 abbrev pub IsTextAnswer : Contents → List ℕ → List ℕ → Type 0
 IsTextAnswer c text printed = IsUnread text printed ⊎ IsTried c text printed
 
--- what is printed for the bytes of a survey file and of a text of calls: the line of the file's fault alone, or what is printed
--- for the text over the survey that the file says
+-- what is printed for the bytes of a survey file and of a text of calls: the line of the file's fault alone, or what is
+-- printed for the text over the survey that the file says
 abbrev pub IsDeskAnswer : List ℕ → List ℕ → List ℕ → Type 0
 IsDeskAnswer file text printed =
     MatchResult (decode file)

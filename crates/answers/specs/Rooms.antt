@@ -1,4 +1,4 @@
--- The rows and the page that a desk provides, and what it prints for what a plan gave. Stands on the calls and on sheets.
+-- The rows and the page that a desk provides, and what it prints for a plan. Stands on the calls and on sheets.
 use Rattle.std.specs.Prelude.{◌≡◌, ℕ, ◌+◌, ◌*◌, List, take, Ok, Err, Result}
 use Rattle.std.specs.List.{AllByRecursion}
 use Rattle.subject.specs.declared.money.Money.{Money}
@@ -27,7 +27,8 @@ pub record RowsCover (places : ℕ) (calls : List Call) (last : Request) (counts
 abbrev pub page_room : ℕ → ℕ
 page_room steps = (steps + 2) * 128
 
--- the text is what is printed for what a plan gave: its run, in the first run rows, on such a page; or the line of the refusal
+-- the text is what is printed for what a plan gave: its run, in the first run rows, on such a page; or the line of the
+-- refusal
 abbrev pub IsGivenText : Sealed → Request → List Step → Result (Planned Money) Refusal → List ℕ → Type 0
 IsGivenText survey q run' (Ok p) text = Shown survey q (take p.steps run') (page_room p.steps) text
 IsGivenText survey q run' (Err e) text = text ≡ refusal_text (refused.Call e)

@@ -158,15 +158,16 @@ fn try_script<W: Write>(
     )
 }
 
-/// Reads a survey file and a text of calls, tries the calls one by one on a job over the survey, for money, and writes what each
-/// gave, and then the sheet of the plan that the last line asks for.
+/// Answers a survey file and a text of calls: tries the calls one by one on a job over the survey, for money, and prints what
+/// each gave, and then the sheet of the plan that the last line asks for.
 ///
-/// A listed call gets a line: `CLOSED`, `REOPENED`, `PLANNED n STEPS TOTAL t` with the total in cents, or `REFUSED` and a number.
-/// The plan of the last line gets the sheet of an optimal path over the ways that are open after the listed calls, or `REFUSED` and
-/// 14, 15 or 17. A survey file that is refused gets the line of its fault alone; and a text that is no script a line that says why,
-/// and nothing is tried.
+/// A listed call gets a line: `CLOSED`, `REOPENED`, `PLANNED n STEPS TOTAL t` with the total in cents, or `REFUSED` and a
+/// number. The last plan gets the sheet of an optimal path over the ways that are open after the listed calls, or the line
+/// of its refusal by its number alone, which is 14, 15 or 17: there are rows enough for every plan, and the page is long
+/// enough for every sheet. A survey file that is refused gets the line of its fault with the byte place, and nothing else;
+/// and a text that is no script gets a line that says why, and nothing is tried.
 ///
-/// There is an error only where memory is not had or the writer fails; what was written before stays written.
+/// An error comes only where memory is not had or the writer fails. What was written before then stays written.
 pub fn answer<W: Write>(alloc: Global, file: &[u8], text: &[u8], out: &mut W) -> anyhow::Result<()>
     ensures { OnOk result (SomePrinted W.Write out.old out.new (IsDeskAnswer file.now text.now)) }
 {

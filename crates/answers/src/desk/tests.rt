@@ -24,6 +24,10 @@ const ANSWERS: &[u8] =
     b"CLOSED\nPLANNED 2 STEPS TOTAL 2600\nREFUSED 12\nREFUSED 17\nREOPENED\nREFUSED 13\nREFUSED 11\n\
 RUN 0 3 35\n0 0 1 22 -\n2 1 2 33 R\n3 2 1 11 -\n1 1 3 33 -\nTOTAL 1500\n";
 
+const UNREAD: &[u8] =
+    b"line 1 cannot be read: it is not \"close W\", \"reopen W\" or \"plan START END BOUND\"; \
+nothing was tried\n";
+
 // What is written for a survey file and a text of calls.
 fn written(rt: &HostRuntime, file: &[u8], text: &[u8]) -> Result<Vec<u8>, Fail> {
     let mut out = Vec::new(rt.alloc());
@@ -56,14 +60,12 @@ fn the_last_plan_is_answered(rt: HostRuntime) -> Result<(), Fail> {
     Ok(())
 }
 
-// A text is read whatever its bytes: one with a line that is not UTF-8 is no script, nor is one that ends without a plan.
+// A text is read whatever its bytes: one with a line that is not UTF-8 is no script, nor is one that ends without a
+// plan.
 #[test]
 fn a_text_is_any_bytes(rt: HostRuntime) -> Result<(), Fail> {
     let unread = written(&rt, &HOUSE, &[255, 10, 255])?;
-    assert_eq!(rt;
-        unread.as_slice(),
-        b"line 1 cannot be read: it is not \"close W\", \"reopen W\" or \"plan START END BOUND\"; nothing was tried\n".as_slice()
-    );
+    assert_eq!(rt; unread.as_slice(), UNREAD);
     let ended = written(&rt, &HOUSE, b"plan 0 3 35\nclose 2\n")?;
     assert_eq!(rt;
         ended.as_slice(),
@@ -107,7 +109,7 @@ impl Write for Narrow {
     }
 }
 
-// Where a writer fails, wherever that is, there is an error, and what was written before is the front of the whole answer.
+// Wherever a writer fails there is an error, and what was written before is the front of the whole answer.
 #[test]
 fn a_writer_fails(rt: HostRuntime) -> Result<(), Fail> {
     for room in 0..ANSWERS.len() {

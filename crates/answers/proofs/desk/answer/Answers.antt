@@ -1,8 +1,8 @@
 -- The file was read, so it says the contents of the survey; and the text is a script, or it is none.
-use Rattle.std.proofs.Common.{inl, inr, sym, ◌∙◌, ap, refl, Ok, Err, IfOk, IfErr, subst, Some}
+use Rattle.std.proofs.Common.{inl, inr, sym, ◌∙◌, ap, refl, IfOk, IfErr, subst}
 use Rattle.std.proofs.lemmas.Result.{on_ok_weaker}
 use Rattle.std.specs.Option.{option_map}
-use Rattle.job.specs.Scripts.{ScriptOf, TroubleOf, trouble_text}
+use Rattle.job.specs.Scripts.{ScriptOf, TroubleOf}
 use Rattle.job.specs.Replay.{calls_of}
 use Rattle.survey.specs.Sealing.{sealed_contents}
 use Rattle.survey_file.specs.Decode.{decode}

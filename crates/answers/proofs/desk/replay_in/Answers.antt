@@ -1,5 +1,5 @@
--- The plan behind the listed calls is right, so its run is in the run rows; and the lines of the entries and then what is printed
--- for the plan are what the replay prints.
+-- The plan behind the listed calls is right, so its run is in the run rows; and the lines of the entries and then
+-- what is printed for the plan are what the replay prints.
 use Rattle.std.proofs.Common.{◌++◌, length, refl}
 use Rattle.std.proofs.lemmas.Result.{on_ok_weaker}
 use Rattle.std.proofs.KnownBytes.{Appends-trans}
