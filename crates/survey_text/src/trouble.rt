@@ -4,8 +4,8 @@ ghost use Rattle.survey_text.specs.Columns.{index};
 ghost use Rattle.survey_text.specs.Words.{column_text, refusal_text, trouble_text};
 
 use crate::word::Word;
-use subject::refusal::Refusal;
 use std::fmt;
+use subject::refusal::Refusal;
 
 /// A field of a row, by the name that docs/SURVEY-TEXT.md gives it.
 #[derive(Clone, Copy, Debug, PartialEq, Eq)]
