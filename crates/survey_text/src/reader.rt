@@ -1,13 +1,16 @@
 // Reading a text.
-ghost use Rattle.std.specs.Prelude.{◌≡◌, map, IfOk};
-ghost use Rattle.csv.specs.Reading.{default_config, records, strip_bom};
+ghost use Rattle.std.specs.Prelude.{◌≡◌, map, true, Some, IfOk};
+ghost use Rattle.csv.specs.Reading.{default_config, records, strip_bom, Ready, is_flexible, source_of};
+ghost use Rattle.csv.specs.Reading.{reader_config, reader_state, reader_trim};
+ghost use Rattle.csv.specs.declared.parser.State.TheVariants as st;
+ghost use Rattle.csv.specs.declared.reader.Trim.TheVariants as trim;
 ghost use Rattle.csv.specs.Records.{fields_of};
 
 use crate::field::check_row;
 use crate::row::{is_heading, says_nothing};
 use crate::text::SurveyText;
 use crate::trouble::Cause;
-use csv::{ByteRecord, ErrorKind, ReaderBuilder};
+use csv::{ByteRecord, ErrorKind, Reader, ReaderBuilder};
 use std::alloc::{AllocError, Global};
 
 // A survey that is being read, and whether a row has said something.
@@ -28,14 +31,26 @@ pub(crate) fn without_mark(text: &[u8]) -> &[u8]
     }
 }
 
-// The rows of a text: its records as CSV, of any lengths.
+// A reader of the rows of a text, which may have any length and follow no header row.
+fn row_reader(alloc: Global, text: &[u8]) -> Reader<&[u8]>
+    ensures config { reader_config result ≡ default_config }
+    ensures trim { reader_trim result ≡ trim.None }
+    ensures flexible { is_flexible result ≡ true }
+    ensures ready { Ready result }
+    ensures state { reader_state result ≡ st.StartRecord }
+    ensures source { source_of (λ s. Some s.now) result ≡ Some (strip_bom text.now) }
+{
+    ReaderBuilder::new()
+        .has_headers(false)
+        .flexible(true)
+        .from_reader(alloc, text)
+}
+
+// The rows of a text: its records as CSV.
 pub(crate) fn rows_of(alloc: Global, text: &[u8]) -> Result<Vec<ByteRecord>, AllocError>
     ensures { IfOk result (λ rows. map fields_of rows.items ≡ records default_config (strip_bom text.now)) }
 {
-    let reader = ReaderBuilder::new()
-        .has_headers(false)
-        .flexible(true)
-        .from_reader(alloc, text);
+    let reader = row_reader(alloc, text);
     let mut rows = Vec::new(alloc);
     for row in reader.into_byte_records() {
         match row {

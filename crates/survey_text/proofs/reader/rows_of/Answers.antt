@@ -1,5 +1,5 @@
 -- Each row that the reader gives is the next record, and it gives none where there is none.
-use Rattle.std.proofs.Common.{Bor, List, ℕ, ◌∙◌, sym, refl, inl, inr, map, Some, ◌∷◌, []}
+use Rattle.std.proofs.Common.{Bor, List, ℕ, ◌∙◌, sym, refl, inl, map, Some, ◌∷◌, []}
 use Rattle.std.proofs.lemmas.List.{map-append}
 use Rattle.csv.specs.Reading.{Reached, default_config, strip_bom}
 use Rattle.csv.specs.Records.{fields_of}
@@ -11,21 +11,19 @@ use Rattle.survey_text.proofs.reader.rows_of.Goals as goal
 pub loop-row-init : goal.loop-row-init
 unfolding Reached
 loop-row-init c =
-    let fr = c.from_reader-reader.ensures in
-    let e = c.flexible.ensures in
-    let h = c.has_headers.ensures in
+    let fresh = c.row_reader-reader.ensures in
     let start = c.into_iter-row-iterator.ensures.into_iter_gives in
     let rdr = c.into_byte_records-row-items.ensures.rdr in
     let left = c.into_byte_records-row-items.ensures.left in
     rw (start, rdr, c.new-rows.ensures.items) (
-      rw (e, h) at fr.trim ∙ c.new.ensures.trim,
-      inr (inr (rw (e, h) at fr.has_headers, fr.headers)),
+      fresh.trim,
+      fresh.ready,
       left,
-      rw (e, h) at fr.config ∙ c.new.ensures.config,
-      rw e at fr.flexible,
+      fresh.config,
+      fresh.flexible,
       strip_bom c.args.text.now,
-      fr.source,
-      (sym fr.state, refl),
+      fresh.source,
+      (sym fresh.state, refl),
     )
 
 pub loop-row-preserved : goal.loop-row-preserved
