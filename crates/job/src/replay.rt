@@ -1,4 +1,5 @@
 ghost use Rattle.std.specs.Prelude.{◌≡◌, ℕ, IfOk, OnErr};
+ghost use Rattle.search.specs.Owned.{AsManyRows};
 ghost use Rattle.search.specs.Memories.{lent_memory, SameLenders};
 ghost use Rattle.job.specs.Book.{after_call, empty_book};
 ghost use Rattle.job.specs.Jobs.{site_below, closed_by, way_count, state_of, state_over};
@@ -119,6 +120,7 @@ pub fn replay_on_owned<S: Site, Q: PriorityQueue<Charge = S::Charge> + Drop>(
     ensures book { (n : ℕ) → closed_by job.new n ≡ book_after S.Site job.old entries.old n }
     ensures replayed { OwnedReplay (state_of S.Site S.Charge.Charge job.old) Q.PriorityQueue queue request
         entries.old entries.new rows.old rows.new result }
+    ensures same { AsManyRows rows.old rows.new }
 {
     replay_slices(
         job,
@@ -163,6 +165,7 @@ pub fn replay_owned<S: Site + Drop, Q: PriorityQueue<Charge = S::Charge> + Drop>
         OwnedReplay (state_over S.Site S.Charge.Charge site empty_book) Q.PriorityQueue queue request
         entries.old entries.new rows.old rows.new planned) }
     ensures err { OnErr result ((entries.new ≡ entries.old) × (rows.new ≡ rows.old)) }
+    ensures same { AsManyRows rows.old rows.new }
 {
     let mut job = Job::new(alloc, site)?;
     Ok(replay_on_owned(&mut job, entries, request, rows, queue))

@@ -3,6 +3,7 @@ ghost use Rattle.subject.specs.declared.refusal.Refusal.TheVariants.{NoRun};
 ghost use Rattle.subject.specs.Problems.{problem_of};
 ghost use Rattle.subject.specs.Runs.{NoLawfulRun};
 ghost use Rattle.search.specs.Rows.{RoomSuffices};
+ghost use Rattle.search.specs.Owned.{AsManyRows};
 ghost use Rattle.search.specs.Memories.{lent_memory, SameLenders};
 ghost use Rattle.planner.specs.Outcome.{OwnedOutcome, PlanOutcome, RunHandedOut};
 ghost use Rattle.planner.specs.Workspaces.{problem, SameWorkspace};
@@ -95,8 +96,9 @@ pub fn plan_owned<S: Site, Q: PriorityQueue<Charge = S::Charge> + Drop>(
     rows: &mut OwnedRows<S::Charge>,
     mut queue: Q,
 ) -> Result<Planned<S::Charge>, Refusal>
-    ensures { OwnedOutcome (problem_of S.Site S.Charge.Charge site.now request) Q.PriorityQueue
+    ensures outcome { OwnedOutcome (problem_of S.Site S.Charge.Charge site.now request) Q.PriorityQueue
         queue rows.old rows.new result }
+    ensures same { AsManyRows rows.old rows.new }
 {
     plan_slices(site, request, &mut rows.cells, &mut queue, &mut rows.run)
 }

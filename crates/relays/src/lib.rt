@@ -6,7 +6,7 @@ ghost use Rattle.std.specs.Prelude.{◌≡◌, ℕ, IfOk, OnErr};
 ghost use Rattle.survey.specs.Sealing.{sealed_contents};
 ghost use Rattle.survey.specs.SurveySite.{money_problem};
 ghost use Rattle.search.specs.Memories.{counts_of, lent_memory, SameLenders};
-ghost use Rattle.search.specs.Owned.{owned_memory};
+ghost use Rattle.search.specs.Owned.{AsManyRows, owned_memory};
 ghost use Rattle.planner.specs.Outcome.{OwnedOutcome, PlanOutcome};
 ghost use Rattle.job.specs.Jobs.{closed_by, site_below};
 ghost use Rattle.job.specs.Replay.{IsUntouched, OwnedReplay, ReplayOutcome};
@@ -60,6 +60,7 @@ pub fn plan_owned_for_money<Q: PriorityQueue<Charge = Money> + Drop>(
         queue rows.old rows.new result }
     ensures answer { IsAnswer (all_open (sealed_contents survey.now) request)
         (counts_of Q.PriorityQueue (owned_memory rows.old queue)) rows.new.run.items result }
+    ensures same { AsManyRows rows.old rows.new }
 {
     plan_owned(&MoneyView::over(survey), request, rows, queue)
 }
@@ -100,6 +101,7 @@ pub fn replay_on_owned_for_money<Q: PriorityQueue<Charge = Money> + Drop>(
         rows.old rows.new result }
     ensures answer { IsAnswer (job_problem job.old entries.old request)
         (counts_of Q.PriorityQueue (owned_memory rows.old queue)) rows.new.run.items result }
+    ensures same { AsManyRows rows.old rows.new }
 {
     replay_on_owned(job, entries, request, rows, queue)
 }
@@ -142,6 +144,7 @@ pub fn replay_owned_for_money<Q: PriorityQueue<Charge = Money> + Drop>(
         IsAnswer (new_job_problem survey.now entries.old request)
         (counts_of Q.PriorityQueue (owned_memory rows.old queue)) rows.new.run.items planned) }
     ensures err { OnErr result ((entries.new ≡ entries.old) × (rows.new ≡ rows.old)) }
+    ensures same { AsManyRows rows.old rows.new }
 {
     replay_owned(
         alloc,

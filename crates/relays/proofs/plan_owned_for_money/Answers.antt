@@ -5,4 +5,4 @@ use Rattle.relays.proofs.plan_owned_for_money.Goals as goal
 
 pub returns-clause-answer : goal.returns-clause-answer
 returns-clause-answer g c =
-    plan_answers c.args.survey.now c.args.request g.Q.PriorityQueue _ _ _ _ c.over.ensures c.plan_owned.ensures.1
+    plan_answers c.args.survey.now c.args.request g.Q.PriorityQueue _ _ _ _ c.over.ensures c.plan_owned.ensures.outcome.1
