@@ -1,8 +1,8 @@
 // A desk for an estimator with a survey in hand. It reads a survey file and a text of calls, tries the calls one by one on
 // a job over the survey, for money, and prints what each gave; and then the run of the last line, which is a plan.
-// It is run as "desk SURVEY CALLS", with the names of two files, as examples/house.survey and examples/house.calls. A line of
-// the text is "close W", "reopen W" or "plan START END BOUND". A text that cannot be read, whatever its bytes, is told with the
-// number of its line, and then nothing is tried.
+// It is run as "desk SURVEY CALLS", with the names of two files, as examples/house.survey and examples/house.calls.
+// A line of the text is "close W", "reopen W" or "plan START END BOUND". Where a text cannot be read, whatever its bytes,
+// the number of the line is printed, and nothing is tried.
 #![tactic(auto)]
 
 use answers::desk::answer;
