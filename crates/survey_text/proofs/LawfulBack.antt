@@ -6,6 +6,7 @@ use Rattle.std.proofs.lemmas.List.{append-nil}
 use Rattle.subject.specs.declared.refusal.Refusal.{Refusal}
 use Rattle.subject.specs.declared.refusal.Refusal.TheVariants.{DraftFull}
 use Rattle.csv.specs.Reading.{default_config, records, strip_bom}
+use Rattle.survey.specs.declared.draft.TheConstants.{MOST_DRAFT_PLACES, MOST_DRAFT_WAYS}
 use Rattle.survey.specs.declared.entry.WayEntry.{WayEntry}
 use Rattle.survey.specs.Checks.{then, place_check, way_check}
 use Rattle.survey.specs.Contents.{Contents}
@@ -62,7 +63,7 @@ cause_ok (Err e) x h = absurd (cc h)
 
 -- a place more, and a way more
 place_count : (c d : Contents) (r : Option ℕ) → add_place c r ≡ Ok d → length d.places ≡ length c.places + 1
-place_count c d r h = by (ltb (length c.places) 256) h where
+place_count c d r h = by (ltb (length c.places) MOST_DRAFT_PLACES) h where
   places_of : Result Contents Refusal → List Place
   places_of (Ok e) = e.places
   places_of (Err e) = []
@@ -75,7 +76,7 @@ place_count c d r h = by (ltb (length c.places) 256) h where
   by false e = absurd (cc e)
 
 way_count : (c d : Contents) (w : WayEntry) → add_way c w ≡ Ok d → length d.places ≡ length c.places
-way_count c d w h = by (ltb (length c.ways) 1024) h where
+way_count c d w h = by (ltb (length c.ways) MOST_DRAFT_WAYS) h where
   places_of : Result Contents Refusal → ℕ
   places_of (Ok e) = length e.places
   places_of (Err e) = 0

@@ -8,6 +8,7 @@ use Rattle.csv.specs.Reading.{default_config, records, records_from, strip_bom}
 use Rattle.csv.specs.Writing.{default_writer, escaped, fields_text, is_blank, read_back, row_body, row_text}
 use Rattle.csv.specs.declared.parser.State.TheVariants as st
 use Rattle.csv.proofs.RoundTrip.{read-write}
+use Rattle.survey.specs.declared.draft.TheConstants.{MOST_DRAFT_PLACES, MOST_DRAFT_WAYS}
 use Rattle.survey.specs.declared.entry.Place.{Place}
 use Rattle.survey.specs.declared.entry.WayEntry.{WayEntry}
 use Rattle.survey.specs.declared.sealed.Sealed.{Sealed}
@@ -74,7 +75,7 @@ field_behind (b ∷ before) n names = field_behind before n names
 
 -- the rows of ways enter them
 walk_ways : (text : List ℕ) (k : ℕ) (e : NamedContents) (ws : List WayEntry) → are_names [] e.names ≡ true → length e.names ≡ length e.contents.places
-    → good_ways (length e.contents.places) ws ≡ true → length e.contents.ways + length ws ≤ 1024
+    → good_ways (length e.contents.places) ws ≡ true → length e.contents.ways + length ws ≤ MOST_DRAFT_WAYS
     → walk text k (in_rows e) (map (way_fields e.names) ws) ≡ Ok (record { contents = with_ways e.contents ws; names = e.names })
 walk_ways text k e [] lawful many good few =
     ap (λ ways. Ok (record { contents = record { places = e.contents.places; ways = ways }; names = e.names })) (sym (append-nil e.contents.ways))
@@ -92,7 +93,7 @@ abbrev Onward : List ℕ → ℕ → Progress → List Row → Progress → List
 Onward text k s rows t rest = (j : ℕ) × (walk text k s rows ≡ walk text j t rest)
 
 walk_places : (text : List ℕ) (k : ℕ) (all later : List (List ℕ)) (e : NamedContents) (ps : List Place) (rest : List Row) → e.names ++ later ≡ all → length later ≡ length ps
-    → are_names e.names later ≡ true → length e.contents.places + length ps ≤ 256 → good_places ps ≡ true
+    → are_names e.names later ≡ true → length e.contents.places + length ps ≤ MOST_DRAFT_PLACES → good_places ps ≡ true
     → Onward text k (in_rows e) (place_rows all (length e.names) ps ++ rest) (in_rows (record { contents = with_places e.contents ps; names = all })) rest
 walk_places text k all [] e [] rest names many lawful few good =
     let places = sym (append-nil e.contents.places) in
@@ -124,9 +125,9 @@ walk_places text k all (n ∷ later) e (p ∷ ps) rest names many lawful few goo
 -- contents that have passed the checks of a draft, with lawful names
 pub record Sound (c : NamedContents) : Type 0 where
   pub lawful : is_lawful c ≡ true
-  pub few_places : length c.contents.places ≤ 256
+  pub few_places : length c.contents.places ≤ MOST_DRAFT_PLACES
   pub good_places : good_places c.contents.places ≡ true
-  pub few_ways : length c.contents.ways ≤ 1024
+  pub few_ways : length c.contents.ways ≤ MOST_DRAFT_WAYS
   pub good_ways : good_ways (length c.contents.places) c.contents.ways ≡ true
 
 -- what the rows of a survey say

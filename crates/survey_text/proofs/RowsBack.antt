@@ -5,6 +5,8 @@ use Rattle.std.proofs.lemmas.Bool.{eqb-true, ltb-true}
 use Rattle.std.proofs.lemmas.Bool.Decides.{nat_tests}
 use Rattle.subject.specs.declared.refusal.Refusal.{Refusal}
 use Rattle.subject.specs.declared.refusal.Refusal.TheVariants.{DraftFull, WrongLetter}
+use Rattle.survey.specs.declared.draft.TheConstants.{MOST_DRAFT_PLACES, MOST_DRAFT_WAYS}
+use Rattle.survey.specs.declared.entry.TheConstants.{MOST_CENTS}
 use Rattle.survey.specs.Card.{row_of, loss_of, entry_of}
 use Rattle.survey.specs.declared.entry.Place.{Place}
 use Rattle.survey.specs.declared.entry.WayEntry.{WayEntry}
@@ -45,20 +47,20 @@ abbrev pub with_ways : Contents → List WayEntry → Contents
 with_ways c ws = record { places = c.places; ways = c.ways ++ ws }
 
 -- a good entry is taken
-place_taken : (c : Contents) (r : Option ℕ) → length c.places < 256 → is_ok (place_check r) ≡ true → add_place c r ≡ Ok (with_places c (of_repeater r ∷ []))
+place_taken : (c : Contents) (r : Option ℕ) → length c.places < MOST_DRAFT_PLACES → is_ok (place_check r) ≡ true → add_place c r ≡ Ok (with_places c (of_repeater r ∷ []))
 place_taken c r few good =
-    let room : ltb (length c.places) 256 ≡ true = grind (arith, nat_tests) in
+    let room : ltb (length c.places) MOST_DRAFT_PLACES ≡ true = grind (arith, nat_tests) in
     ap (λ b. cond b (then (place_check r) (λ _. Ok (with_places c (of_repeater r ∷ [])))) (Err DraftFull)) room
     ∙ ap (λ x. then x (λ _. Ok (with_places c (of_repeater r ∷ [])))) (unit_ok (place_check r) good)
 
-way_taken : (c : Contents) (w : WayEntry) → length c.ways < 1024 → is_ok (way_check (length c.places) w) ≡ true → add_way c w ≡ Ok (with_ways c (w ∷ []))
+way_taken : (c : Contents) (w : WayEntry) → length c.ways < MOST_DRAFT_WAYS → is_ok (way_check (length c.places) w) ≡ true → add_way c w ≡ Ok (with_ways c (w ∷ []))
 way_taken c w few good =
-    let room : ltb (length c.ways) 1024 ≡ true = grind (arith, nat_tests) in
+    let room : ltb (length c.ways) MOST_DRAFT_WAYS ≡ true = grind (arith, nat_tests) in
     ap (λ b. cond b (then (way_check (length c.places) w) (λ _. Ok (with_ways c (w ∷ [])))) (Err DraftFull)) room
     ∙ ap (λ x. then x (λ _. Ok (with_ways c (w ∷ [])))) (unit_ok (way_check (length c.places) w) good)
 
 -- the row of a place enters it, with its name
-price_low : (p : ℕ) → is_ok (place_check (Some p)) ≡ true → p ≤ 1000000
+price_low : (p : ℕ) → is_ok (place_check (Some p)) ≡ true → p ≤ MOST_CENTS
 price_low p good = grind (arith, nat_tests)
 
 pub turn_place : (e : NamedContents) (name : List ℕ) (r : Option ℕ) → is_ok (name_of e.names name) ≡ true → length e.contents.places < 256 → is_ok (place_check r) ≡ true
@@ -112,11 +114,11 @@ record Figures (n : ℕ) (w : WayEntry) : Type 0 where
   to : w.to < n
   letter : LetterBack w.letter
   metres : w.metres ≤ 200
-  price : w.price ≤ 1000000
+  price : w.price ≤ MOST_CENTS
   grade : w.grade < 256
   passed : is_ok (way_check n w) ≡ true
 
-price_passed : (p : ℕ) → is_ok (price_check p) ≡ true → p ≤ 1000000
+price_passed : (p : ℕ) → is_ok (price_check p) ≡ true → p ≤ MOST_CENTS
 price_passed p good = grind (arith, nat_tests)
 
 figures : (n : ℕ) (w : WayEntry) → good_way n w ≡ true → Figures n w
@@ -138,7 +140,7 @@ figures n w good =
 
 -- the row of a way enters it
 pub turn_way : (e : NamedContents) (w : WayEntry) → are_names [] e.names ≡ true → length e.names ≡ length e.contents.places → good_way (length e.contents.places) w ≡ true
-    → length e.contents.ways < 1024 → turn_of (in_rows e) (way_fields e.names w) ≡ Ok (in_rows (record { contents = with_ways e.contents (w ∷ []); names = e.names }))
+    → length e.contents.ways < MOST_DRAFT_WAYS → turn_of (in_rows e) (way_fields e.names w) ≡ Ok (in_rows (record { contents = with_ways e.contents (w ∷ []); names = e.names }))
 turn_way e w lawful many good few =
     let fig = figures (length e.contents.places) w good in
     let metres_low = fig.metres in
