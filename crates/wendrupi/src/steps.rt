@@ -1,0 +1,80 @@
+//! The steps of a run as a text, a step to a line: the number of its way, and R where a repeater is set or - where none is.
+
+use crate::lines::{says_nothing, without_return};
+use std::alloc::{AllocError, Global};
+use std::fmt;
+use std::str::from_utf8;
+use subject::run::Step;
+
+/// The line with this number, from 1, is the first that is no step.
+#[derive(Clone, Copy, Debug, PartialEq, Eq)]
+pub struct NoStep {
+    pub line: usize,
+}
+
+impl fmt::Display for NoStep {
+    fn fmt<W: fmt::Write>(&self, f: &mut fmt::Formatter<W>) -> fmt::Result {
+        let line = self.line;
+        write!(
+            f,
+            "line {line}: it is no step, the number of a way and R or -, such as \"2 R\""
+        )
+    }
+}
+
+// Whether a word sets a repeater.
+fn mark_of(word: &str) -> Option<bool> {
+    match word {
+        "R" => Some(true),
+        "-" => Some(false),
+        _ => None,
+    }
+}
+
+// The text of a step.
+fn text_of(alloc: Global, step: Step) -> Result<String, AllocError> {
+    let way = step.way;
+    let mark = if step.mark { "R" } else { "-" };
+    format!(in alloc; "{way} {mark}")
+}
+
+// What the words of a line say, if they say anything.
+fn words_say(line: &str) -> Option<Step> {
+    let (way, mark) = line.split_once(' ')?;
+    Some(Step {
+        way: way.parse::<usize>().ok()?,
+        mark: mark_of(mark)?,
+    })
+}
+
+/// The step of which a line is the text, to the byte, or none.
+pub fn step_of_line(alloc: Global, line: &[u8]) -> Result<Option<Step>, AllocError> {
+    let Ok(line) = from_utf8(line) else {
+        return Ok(None);
+    };
+    let Some(step) = words_say(line) else {
+        return Ok(None);
+    };
+    let text = text_of(alloc, step)?;
+    Ok((text.as_str() == line).then_some(step))
+}
+
+/// The steps of a text, or its first line that is no step. Blank lines and remarks are passed over.
+///
+/// The outer error is want of memory.
+pub fn read_steps(alloc: Global, text: &[u8]) -> Result<Result<Vec<Step>, NoStep>, AllocError> {
+    let mut steps = Vec::new(alloc);
+    let mut number: usize = 0;
+    for line in text.split(|byte| *byte == b'\n') {
+        number = number.saturating_add(1);
+        let line = without_return(line);
+        if says_nothing(line) {
+            continue;
+        }
+        match step_of_line(alloc, line)? {
+            Some(step) => steps.push(step)?,
+            None => return Ok(Err(NoStep { line: number })),
+        }
+    }
+    Ok(Ok(steps))
+}
