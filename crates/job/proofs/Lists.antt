@@ -28,29 +28,36 @@ after_more ways book (d ∷ calls) c = after_more ways (after_call ways book d) 
 module _ {C Q : Type 0} (q : QueueGhosts Q C) where
   pub calls-append : (J : JobState C) (h mid h' : LentMemory C Q) (es : List (Entry C)) (e : Entry C)
       → CallsOutcome J q h mid es → CallOutcome (state_after_all J (calls_of es)) q mid h' e.call e.answer
-      → CallsOutcome J q h h' (es ++ e ∷ [])
-  calls-append J h mid h' [] e t u = (h', subst (λ (z : LentMemory C Q). CallOutcome J q z h' e.call e.answer) t u, refl)
-  calls-append J h mid h' (d ∷ es) e t u = (t.0, t.1, calls-append (state_after J d.call) t.0 mid h' es e t.2 u)
+      → counts_of q h' ≡ counts_of q mid → CallsOutcome J q h h' (es ++ e ∷ [])
+  calls-append J h mid h' [] e t u same = (
+    h',
+    subst (λ (z : LentMemory C Q). CallOutcome J q z h' e.call e.answer) t u,
+    same ∙ ap (counts_of q) t,
+    refl,
+  )
+  calls-append J h mid h' (d ∷ es) e t u same =
+      (t.0, t.1, t.2, calls-append (state_after J d.call) t.0 mid h' es e t.3 u same)
 
-  rows_after_call : (J : JobState C) (h h' : LentMemory C Q) (c : Call) (a : Answer C) → CallOutcome J q h h' c a
+  -- the queue has as many rows after a call as before it
+  pub rows_after_call : (J : JobState C) (h h' : LentMemory C Q) (c : Call) (a : Answer C) → CallOutcome J q h h' c a
       → q.rows h'.queue ≡ q.rows h.queue
   rows_after_call J h h' (Close w) a t = ap (λ (z : LentMemory C Q). q.rows z.queue) t.1
   rows_after_call J h h' (Reopen w) a t = ap (λ (z : LentMemory C Q). q.rows z.queue) t.1
   rows_after_call J h h' (Plan request) a t = t.2.rows
 
-  -- the queue has as many rows after the listed calls as before them
-  pub rows_after_calls : (J : JobState C) (h h' : LentMemory C Q) (es : List (Entry C)) → CallsOutcome J q h h' es
-      → q.rows h'.queue ≡ q.rows h.queue
-  rows_after_calls J h h' [] t = ap (λ (z : LentMemory C Q). q.rows z.queue) t
-  rows_after_calls J h h' (e ∷ es) t =
-      rows_after_calls (state_after J e.call) t.0 h' es t.2 ∙ rows_after_call J h t.0 e.call e.answer t.1
+  -- there are as many rows of each sort after the listed calls as before them
+  pub counts_after_calls : (J : JobState C) (h h' : LentMemory C Q) (es : List (Entry C)) → CallsOutcome J q h h' es
+      → counts_of q h' ≡ counts_of q h
+  counts_after_calls J h h' [] t = ap (counts_of q) t
+  counts_after_calls J h h' (e ∷ es) t = counts_after_calls (state_after J e.call) t.0 h' es t.3 ∙ t.2
 
   -- the call at the place `at` is tried after those before it, and its entry is written
   pub tried_next : (J : JobState C) (h mid h' : LentMemory C Q) (es : List (Entry C)) (at : ℕ) (e : Entry C) (closed closed' : ℕ → Bool)
       → at < length es → closed ≡ after_calls J.below.ways J.book (calls_of (take at es)) → CallsOutcome J q h mid (take at es)
       → CallOutcome (with_book J closed) q mid h' e.call e.answer → ((n : ℕ) → closed' n ≡ after_call J.below.ways closed e.call n)
+      → counts_of q h' ≡ counts_of q mid
       → (closed' ≡ after_calls J.below.ways J.book (calls_of (take (at + 1) (set es at e)))) × CallsOutcome J q h h' (take (at + 1) (set es at e))
-  tried_next J h mid h' es at e closed closed' inside is t u marks =
+  tried_next J h mid h' es at e closed closed' inside is t u marks same =
       let ways = J.below.ways in
       let more : take at es ++ e ∷ [] ≡ take (at + 1) (set es at e) = sym (rw add-one (take-suc-set es at e inside)) in
       let calls : calls_of (take at es ++ e ∷ []) ≡ calls_of (take at es) ++ e.call ∷ [] = map-append (λ (z : Entry C). z.call) (take at es) (e ∷ []) in (
@@ -60,7 +67,7 @@ module _ {C Q : Type 0} (q : QueueGhosts Q C) where
             ∙ ap (λ (cs : List Call). after_calls ways J.book cs) (sym calls)
             ∙ ap (λ (z : List (Entry C)). after_calls ways J.book (calls_of z)) more,
         subst (λ (z : List (Entry C)). CallsOutcome J q h h' z) more
-            (calls-append J h mid h' (take at es) e t (subst (λ (b : ℕ → Bool). CallOutcome (with_book J b) q mid h' e.call e.answer) is u)),
+            (calls-append J h mid h' (take at es) e t (subst (λ (b : ℕ → Bool). CallOutcome (with_book J b) q mid h' e.call e.answer) is u) same),
       )
 
 -- writing what stands there already changes nothing

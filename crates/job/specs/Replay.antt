@@ -38,11 +38,14 @@ CallOutcome J q h h' (Reopen w) a = (a ≡ of_change (reopening J.below.ways J.b
 CallOutcome {C} J q h h' (Plan request) a =
     (r : Result (Planned C) Refusal) × (a ≡ of_plan r) × PlanOutcome (problem_on J request) q h h' r
 
--- the listed calls, one by one, each on the job as those before it left it
+-- the listed calls, one by one, each on the job as those before it left it, and with as many rows of each sort
 abbrev pub CallsOutcome : {C Q : Type 0} → JobState C → QueueGhosts Q C → LentMemory C Q → LentMemory C Q → List (Entry C) → Type 0
 CallsOutcome J q h h' [] = h' ≡ h
 CallsOutcome {C} {Q} J q h h' (e ∷ es) =
-    (mid : LentMemory C Q) × CallOutcome J q h mid e.call e.answer × CallsOutcome (state_after J e.call) q mid h' es
+    (mid : LentMemory C Q)
+    × CallOutcome J q h mid e.call e.answer
+    × (counts_of q mid ≡ counts_of q h)
+    × CallsOutcome (state_after J e.call) q mid h' es
 
 -- the law of a plan for the problem P, over so many rows. Where the request passes the checks, a run is handed out that is lawful,
 -- with its total, and no lawful run's total is lower; or the answer is that there is no run, and then no run is lawful. Where it does

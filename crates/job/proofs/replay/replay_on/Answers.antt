@@ -3,7 +3,7 @@
 use Rattle.std.proofs.Common.{◌≡◌, ℕ, Bool, subst}
 use Rattle.planner.specs.Outcome.{PlanOutcome}
 use Rattle.search.specs.Memories.{lent_memory, counts_of}
-use Rattle.job.proofs.Lists.{law_holds, rows_after_calls, counts_same}
+use Rattle.job.proofs.Lists.{law_holds, counts_after_calls}
 use Rattle.job.specs.Book.{after_calls}
 use Rattle.job.specs.Jobs.{closed_by, state_of, state_over, problem_on, with_book, way_count}
 use Rattle.job.specs.Replay.{calls_of, state_after_all}
@@ -31,7 +31,7 @@ returns-clause-replayed g c =
     record {
       calls = tried.calls;
       law = law_holds (problem_on (state_after_all J calls) request) q before h' (counts_of q h) c.plan.result
-          (counts_same q h before tried.same.cell_count (rows_after_calls q J h before c.try_all.new.entries tried.listed) tried.same.step_count) next;
+          (counts_after_calls q J h before c.try_all.new.entries tried.listed) next;
       before = before;
       listed = tried.listed;
       next = next;

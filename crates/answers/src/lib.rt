@@ -1,0 +1,4 @@
+//! Whole answers of the programs: from the bytes that one reads to what it has written at the end.
+#![tactic(auto)]
+
+pub mod desk;
