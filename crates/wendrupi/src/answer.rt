@@ -1,3 +1,6 @@
+ghost use Rattle.std.specs.Prelude.{◌≡◌, IfOk};
+ghost use Rattle.sheet.specs.Refused.{refusal_text};
+
 use sheet::print::print_refusal;
 use sheet::refused::Refused;
 use std::alloc::{AllocError, Global};
@@ -19,7 +22,9 @@ pub struct Answer {
 
 impl Answer {
     /// An answer.
-    pub fn given(text: Vec<u8>) -> Answer {
+    pub fn given(text: Vec<u8>) -> Answer
+        ensures { result ≡ record { text = text; outcome = Outcome.Answered } }
+    {
         Answer {
             text,
             outcome: Outcome::Answered,
@@ -27,7 +32,10 @@ impl Answer {
     }
 
     /// The line of a refusal.
-    pub fn refused(alloc: Global, refused: Refused) -> anyhow::Result<Answer> {
+    pub fn refused(alloc: Global, refused: Refused) -> anyhow::Result<Answer>
+        ensures text { IfOk result (λ a. a.text.items ≡ refusal_text refused) }
+        ensures outcome { IfOk result (λ a. a.outcome ≡ Outcome.Refused) }
+    {
         let mut text = Vec::new(alloc);
         print_refusal(&mut text, refused)?;
         Ok(Answer {
@@ -45,7 +53,9 @@ impl Answer {
     }
 
     /// A text whose last line may be that of a refusal.
-    pub fn of_text(text: Vec<u8>) -> Answer {
+    pub fn of_text(text: Vec<u8>) -> Answer
+        ensures { result.text ≡ text }
+    {
         let outcome = if is_refused(text.as_slice()) {
             Outcome::Refused
         } else {

@@ -1,3 +1,9 @@
+ghost use Rattle.std.specs.Prelude.{◌≡◌, Ok, Err, IfOk, IfErr, true};
+ghost use Rattle.survey_file.specs.Decode.{decode};
+ghost use Rattle.survey_text.specs.Written.{is_lawful};
+ghost use Rattle.survey_text.specs.Texts.{survey_of_text};
+ghost use Rattle.wendrupi.specs.Inputs.{is_survey_file, said_by_file, said_by_text, survey_of, named_contents};
+
 use crate::answer::Answer;
 use sheet::refused::Refused;
 use std::alloc::{AllocError, Global};
@@ -24,12 +30,18 @@ pub enum Unread {
 }
 
 /// Whether bytes begin as a survey file does, with its head field.
-pub fn is_survey_file(bytes: &[u8]) -> bool {
+pub fn is_survey_file(bytes: &[u8]) -> bool
+    ensures { result ≡ is_survey_file bytes.now }
+{
     bytes.starts_with(&[1, 0, 2])
 }
 
 // The survey of a survey file, whose places have their numbers as names.
-fn survey_of_file(alloc: Global, bytes: &[u8]) -> Result<Result<NamedSurvey, Unread>, AllocError> {
+fn survey_of_file(alloc: Global, bytes: &[u8]) -> Result<Result<NamedSurvey, Unread>, AllocError>
+    ensures ok { IfOk result (λ r. IfOk r (λ s. said_by_file (decode bytes.now) ≡ Ok (named_contents s))) }
+    ensures lawful { IfOk result (λ r. IfOk r (λ s. is_lawful (named_contents s) ≡ true)) }
+    ensures err { IfOk result (λ r. IfErr r (λ u. said_by_file (decode bytes.now) ≡ Err u)) }
+{
     let mut reader = FileReader::new(alloc)?;
     let mut draft = Draft::new(alloc)?;
     match reader.read(bytes, &mut draft) {
@@ -43,7 +55,11 @@ fn survey_of_file(alloc: Global, bytes: &[u8]) -> Result<Result<NamedSurvey, Unr
 }
 
 // The survey of a text.
-fn survey_of_text(alloc: Global, bytes: &[u8]) -> Result<Result<NamedSurvey, Unread>, AllocError> {
+fn survey_of_text(alloc: Global, bytes: &[u8]) -> Result<Result<NamedSurvey, Unread>, AllocError>
+    ensures ok { IfOk result (λ r. IfOk r (λ s. said_by_text (survey_of_text bytes.now) ≡ Ok (named_contents s))) }
+    ensures lawful { IfOk result (λ r. IfOk r (λ s. is_lawful (named_contents s) ≡ true)) }
+    ensures err { IfOk result (λ r. IfErr r (λ u. said_by_text (survey_of_text bytes.now) ≡ Err u)) }
+{
     match read(alloc, bytes)? {
         Ok(text) => Ok(Ok(NamedSurvey {
             survey: text.draft.seal(),
@@ -56,7 +72,11 @@ fn survey_of_text(alloc: Global, bytes: &[u8]) -> Result<Result<NamedSurvey, Unr
 /// The survey of a survey file or of a text, which are told apart by their first bytes.
 ///
 /// The outer error is want of memory.
-pub fn read_survey(alloc: Global, bytes: &[u8]) -> Result<Result<NamedSurvey, Unread>, AllocError> {
+pub fn read_survey(alloc: Global, bytes: &[u8]) -> Result<Result<NamedSurvey, Unread>, AllocError>
+    ensures ok { IfOk result (λ r. IfOk r (λ s. survey_of bytes.now ≡ Ok (named_contents s))) }
+    ensures lawful { IfOk result (λ r. IfOk r (λ s. is_lawful (named_contents s) ≡ true)) }
+    ensures err { IfOk result (λ r. IfErr r (λ u. survey_of bytes.now ≡ Err u)) }
+{
     if is_survey_file(bytes) {
         survey_of_file(alloc, bytes)
     } else {

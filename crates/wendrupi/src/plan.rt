@@ -1,3 +1,10 @@
+ghost use Rattle.std.specs.Prelude.{◌≡◌, ◌+◌, ◌*◌, ◌≤◌, ℕ, min, take, IfOk, IfErr};
+ghost use Rattle.subject.specs.Problems.{problem_of};
+ghost use Rattle.subject.specs.declared.run.TheConstants.{MOST_BOUND};
+ghost use Rattle.survey.specs.Sealing.{sealed_contents};
+ghost use Rattle.survey.specs.SurveySite.{survey_site};
+ghost use Rattle.wendrupi.specs.Runs.{IsPlanned, page_of};
+
 use crate::answer::Answer;
 use crate::args::PlanOptions;
 use crate::input::NamedSurvey;
@@ -26,7 +33,10 @@ pub struct Run<C> {
 }
 
 // How many rows a plan over so many places needs.
-fn row_count(places: usize, bound: usize) -> usize {
+fn row_count(places: usize, bound: usize) -> usize
+    requires { places ≤ 256 }
+    ensures { result ≡ places * (min bound MOST_BOUND + 1) }
+{
     places * (bound.min(MOST_BOUND) + 1)
 }
 
@@ -37,7 +47,15 @@ pub fn planned<K: Charged>(
     alloc: Global,
     survey: &Sealed,
     request: Request,
-) -> Result<Result<Run<K>, Refusal>, AllocError> {
+) -> Result<Result<Run<K>, Refusal>, AllocError>
+    ensures {
+        IfOk result (IsPlanned (record {
+            kind = K.Charge.Charge;
+            site = survey_site K.Charged.of_way K.Charged.of_repeater (sealed_contents survey.now);
+            request = request
+        }))
+    }
+{
     let count = row_count(survey.places(), request.bound);
     let mut rows: OwnedRows<K> = OwnedRows::blank(alloc, count)?;
     let mut queue_rows = blank_rows(alloc, count)?;
@@ -49,7 +67,10 @@ pub fn planned<K: Charged>(
 }
 
 // The run that is in the first run rows.
-fn run_in<K: Charged>(rows: OwnedRows<K>, planned: Planned<K>) -> Run<K> {
+fn run_in<K: Charged>(rows: OwnedRows<K>, planned: Planned<K>) -> Run<K>
+    ensures steps { result.steps.items ≡ take planned.steps rows.run.items }
+    ensures total { result.total ≡ planned.total }
+{
     let mut steps = rows.run;
     steps.truncate(planned.steps);
     Run {
@@ -59,7 +80,9 @@ fn run_in<K: Charged>(rows: OwnedRows<K>, planned: Planned<K>) -> Run<K> {
 }
 
 /// How many bytes the sheet of so many steps may have: a line of it has less than 128.
-pub fn page_of(steps: usize) -> usize {
+pub fn page_of(steps: usize) -> usize
+    ensures { result ≡ page_of steps }
+{
     (steps.saturating_add(2)).saturating_mul(128)
 }
 

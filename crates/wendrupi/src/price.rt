@@ -1,3 +1,7 @@
+ghost use Rattle.std.specs.Prelude.{IfOk, length};
+ghost use Rattle.sheet.specs.Printing.{Shown};
+ghost use Rattle.wendrupi.specs.Runs.{page_of};
+
 use crate::answer::Answer;
 use crate::plan::page_of;
 use sheet::print::print_sheet;
@@ -11,7 +15,9 @@ pub fn price(
     survey: &Sealed,
     request: Request,
     steps: &[Step],
-) -> anyhow::Result<Answer> {
+) -> anyhow::Result<Answer>
+    ensures { IfOk result (λ a. Shown survey.now request steps.now (page_of (length steps.now)) a.text.items) }
+{
     let mut text = Vec::new(alloc);
     print_sheet(alloc, &mut text, survey, request, steps, page_of(steps.len()))?;
     Ok(Answer::of_text(text))

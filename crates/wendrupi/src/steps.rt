@@ -1,5 +1,9 @@
 //! The steps of a run as a text, a step to a line: the number of its way, and R where a repeater is set or - where none is.
 
+ghost use Rattle.std.specs.Prelude.{◌≡◌, ℕ, ◌^◌, ◌<◌, IfOk, IfSome, IfNone, Some, Bool, decimal, string_bytes};
+ghost use Rattle.subject.specs.declared.run.Step.{Step as Drawn};
+ghost use Rattle.wendrupi.specs.Steps.{mark_text, step_text, IsNoStep};
+
 use crate::lines::{says_nothing, without_return};
 use std::alloc::{AllocError, Global};
 use std::fmt;
@@ -23,7 +27,9 @@ impl fmt::Display for NoStep {
 }
 
 // Whether a word sets a repeater.
-fn mark_of(word: &str) -> Option<bool> {
+fn mark_of(word: &str) -> Option<bool>
+    ensures { (b : Bool) → word.now ≡ mark_text b → result ≡ Some b }
+{
     match word {
         "R" => Some(true),
         "-" => Some(false),
@@ -31,24 +37,45 @@ fn mark_of(word: &str) -> Option<bool> {
     }
 }
 
+// The word of a mark.
+fn mark_word(mark: bool) -> &'static str
+    ensures { result.now ≡ mark_text mark }
+{
+    if mark { "R" } else { "-" }
+}
+
+// The number that a word writes, if it writes one.
+fn number(word: &str) -> Option<usize>
+    ensures { (n : ℕ) → n < 2 ^ 64 → word.now ≡ decimal n → result ≡ Some n }
+{
+    word.parse::<usize>().ok()
+}
+
 // The text of a step.
-fn text_of(alloc: Global, step: Step) -> Result<String, AllocError> {
+fn text_of(alloc: Global, step: Step) -> Result<String, AllocError>
+    ensures { IfOk result (λ s. string_bytes s ≡ step_text step) }
+{
     let way = step.way;
-    let mark = if step.mark { "R" } else { "-" };
+    let mark = mark_word(step.mark);
     format!(in alloc; "{way} {mark}")
 }
 
 // What the words of a line say, if they say anything.
-fn words_say(line: &str) -> Option<Step> {
+fn words_say(line: &str) -> Option<Step>
+    ensures { (s : Drawn) → s.way < 2 ^ 64 → line.now ≡ step_text s → result ≡ Some s }
+{
     let (way, mark) = line.split_once(' ')?;
     Some(Step {
-        way: way.parse::<usize>().ok()?,
+        way: number(way)?,
         mark: mark_of(mark)?,
     })
 }
 
 /// The step of which a line is the text, to the byte, or none.
-pub fn step_of_line(alloc: Global, line: &[u8]) -> Result<Option<Step>, AllocError> {
+pub fn step_of_line(alloc: Global, line: &[u8]) -> Result<Option<Step>, AllocError>
+    ensures some { IfOk result (λ o. IfSome o (λ s. line.now ≡ step_text s)) }
+    ensures none { IfOk result (λ o. IfNone o (IsNoStep line.now)) }
+{
     let Ok(line) = from_utf8(line) else {
         return Ok(None);
     };

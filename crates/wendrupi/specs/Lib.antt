@@ -1,0 +1,4 @@
+pub mod Inputs
+pub mod Places
+pub mod Runs
+pub mod Steps
