@@ -3,3 +3,7 @@ pub mod Replayed
 pub mod Pages
 pub mod Sheets
 pub mod Files
+mod Shown
+mod Plans
+mod Printed
+mod Steps

@@ -2,3 +2,5 @@
 #![tactic(auto)]
 
 pub mod desk;
+pub mod line;
+pub mod price;
