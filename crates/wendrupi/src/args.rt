@@ -139,6 +139,7 @@ fn show_command<'a>(alloc: Global) -> Result<Command<'a>, AllocError> {
 /// The command line of the program.
 pub fn command<'a>(alloc: Global) -> Result<Command<'a>, AllocError> {
     Command::new(alloc, "wendrupi")
+        .bin_name("wendrupi")?
         .about("Plans cable runs with repeaters over a survey of a house")
         .after_help(HELP)
         .subcommand_required(true)
@@ -238,7 +239,8 @@ pub fn asked_in<'a>(matches: &ArgMatches<'a>) -> anyhow::Result<Asked<'a>> {
 /// Why a command line is wrong, in one line.
 pub fn trouble(alloc: Global, error: &Error) -> Result<anyhow::Error, AllocError> {
     let text = format!(in alloc; "{error}")?;
-    let (cause, _) = text.as_str().split_once("\n\n").unwrap_or((text.as_str(), ""));
+    let (first, _) = text.as_str().split_once("\n\n").unwrap_or((text.as_str(), ""));
+    let cause = first.strip_prefix("error: ").unwrap_or(first);
     let mut line = String::new(alloc);
     for part in cause.lines() {
         if !line.is_empty() {

@@ -1,15 +1,15 @@
-ghost use Rattle.std.specs.Prelude.{◌≡◌, ◌+◌, ◌*◌, ◌≤◌, ℕ, min, take, IfOk, IfErr};
+ghost use Rattle.std.specs.Prelude.{◌≡◌, ◌≤◌, take, IfOk};
 ghost use Rattle.subject.specs.Problems.{problem_of};
-ghost use Rattle.subject.specs.declared.run.TheConstants.{MOST_BOUND};
 ghost use Rattle.survey.specs.Sealing.{sealed_contents};
 ghost use Rattle.survey.specs.SurveySite.{survey_site};
-ghost use Rattle.wendrupi.specs.Runs.{IsPlanned, page_of};
+ghost use Rattle.wendrupi.specs.Runs.{IsPlanned, IsMoneyAnswer, page_of, row_count};
 
 use crate::answer::Answer;
 use crate::args::PlanOptions;
 use crate::input::NamedSurvey;
 use crate::kind::Kind;
 use crate::list::push_list;
+use answers::line::answer_plan;
 use planner::plan::{Planned, plan_owned};
 use search::owned::OwnedRows;
 use sheet::print::print_sheet;
@@ -35,7 +35,7 @@ pub struct Run<C> {
 // How many rows a plan over so many places needs.
 fn row_count(places: usize, bound: usize) -> usize
     requires { places ≤ 256 }
-    ensures { result ≡ places * (min bound MOST_BOUND + 1) }
+    ensures { result ≡ row_count places bound }
 {
     places * (bound.min(MOST_BOUND) + 1)
 }
@@ -98,6 +98,16 @@ fn sheet_of(
     Ok(text)
 }
 
+/// The sheet of a cheapest run, or the line of the refusal.
+pub fn money_sheet(alloc: Global, survey: &Sealed, request: Request) -> anyhow::Result<Answer>
+    ensures { IfOk result (λ a. IsMoneyAnswer (sealed_contents survey.now) request a.text.items) }
+{
+    let rows = row_count(survey.places(), request.bound);
+    let mut text = Vec::new(alloc);
+    answer_plan(alloc, survey, request, rows, page_of(rows), &mut text)?;
+    Ok(Answer::of_text(text))
+}
+
 // The sheet of a cheapest run, and its list where there are to be names.
 fn plan_for_money(
     alloc: Global,
@@ -105,15 +115,13 @@ fn plan_for_money(
     request: Request,
     has_names: bool,
 ) -> anyhow::Result<Answer> {
-    let run = match planned::<Money>(alloc, &input.survey, request)? {
-        Ok(run) => run,
-        Err(refusal) => return Answer::refused(alloc, Refused::Call(refusal)),
-    };
-    let mut text = sheet_of(alloc, &input.survey, request, &run.steps)?;
+    let mut answer = money_sheet(alloc, &input.survey, request)?;
     if has_names {
-        push_list(alloc, &mut text, input, &run.steps)?;
+        if let Ok(run) = planned::<Money>(alloc, &input.survey, request)? {
+            push_list(alloc, &mut answer.text, input, &run.steps)?;
+        }
     }
-    Ok(Answer::given(text))
+    Ok(answer)
 }
 
 // The sheet of a least disturbing run with its grade, and its list where there are to be names.
