@@ -1,0 +1,4 @@
+pub mod Escapes
+pub mod Marks
+pub mod Documents
+pub mod Layers
