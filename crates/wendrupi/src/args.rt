@@ -44,6 +44,11 @@ pub enum Asked<'a> {
     Show {
         survey: &'a str,
     },
+    Draw {
+        survey: &'a str,
+        run: Option<RunWords<'a>>,
+        kind: Kind,
+    },
 }
 
 impl<'a> Asked<'a> {
@@ -55,6 +60,7 @@ impl<'a> Asked<'a> {
             Asked::Desk { survey, .. } => survey,
             Asked::Pack { survey, .. } => survey,
             Asked::Show { survey } => survey,
+            Asked::Draw { survey, .. } => survey,
         }
     }
 }
@@ -72,27 +78,46 @@ fn survey_word<'a>(alloc: Global) -> Arg<'a> {
     word(alloc, "survey", "SURVEY", "A survey: its text (CSV), or its survey file")
 }
 
-// A subcommand with the three words of a run behind its own.
-fn with_run<'a>(alloc: Global, command: Command<'a>) -> Result<Command<'a>, AllocError> {
-    let bound = word(
-        alloc,
-        "bound",
-        "BOUND",
-        "The most that the run may lose since its last repeater, in tenths of a decibel: 1 to 1000",
-    );
-    command
-        .arg(word(alloc, "start", "START", "The place where the run starts, by name or number"))?
-        .arg(word(alloc, "end", "END", "The place where it ends, by name or number"))?
-        .arg(bound.value_parser(value_parser!(usize)))
+// The three words of a run.
+fn start_word<'a>(alloc: Global) -> Arg<'a> {
+    word(alloc, "start", "START", "The place where the run starts, by name or number")
 }
 
-fn plan_command<'a>(alloc: Global) -> Result<Command<'a>, AllocError> {
-    let kind = Arg::new(alloc, "kind")
+fn end_word<'a>(alloc: Global) -> Arg<'a> {
+    word(alloc, "end", "END", "The place where it ends, by name or number")
+}
+
+fn bound_word<'a>(alloc: Global) -> Arg<'a> {
+    word(alloc, "bound", "BOUND", BOUND_HELP).value_parser(value_parser!(usize))
+}
+
+// The kind of charge in which a run is least.
+fn kind_option<'a>(alloc: Global) -> Arg<'a> {
+    Arg::new(alloc, "kind")
         .long("kind")
         .value_name("KIND")
         .help("What the run is least in")
         .value_parser(Kind::WORDS.as_slice())
-        .default_value("money");
+        .default_value("money")
+}
+
+// A subcommand with the three words of a run behind its own.
+fn with_run<'a>(alloc: Global, command: Command<'a>) -> Result<Command<'a>, AllocError> {
+    command
+        .arg(start_word(alloc))?
+        .arg(end_word(alloc))?
+        .arg(bound_word(alloc))
+}
+
+// A subcommand with the three words of a run behind its own, which are all there or none.
+fn with_optional_run<'a>(alloc: Global, command: Command<'a>) -> Result<Command<'a>, AllocError> {
+    command
+        .arg(start_word(alloc).required(false).requires_arg("bound")?)?
+        .arg(end_word(alloc).required(false).requires_arg("bound")?)?
+        .arg(bound_word(alloc).required(false))
+}
+
+fn plan_command<'a>(alloc: Global) -> Result<Command<'a>, AllocError> {
     let names = Arg::new(alloc, "names")
         .long("names")
         .help("List the steps with the names of their places, too")
@@ -101,7 +126,9 @@ fn plan_command<'a>(alloc: Global) -> Result<Command<'a>, AllocError> {
         .about("Plan a least run and print its sheet")
         .after_help(PLAN_HELP)
         .arg(survey_word(alloc))?;
-    with_run(alloc, command)?.arg(kind)?.arg(names)
+    with_run(alloc, command)?
+        .arg(kind_option(alloc))?
+        .arg(names)
 }
 
 fn price_command<'a>(alloc: Global) -> Result<Command<'a>, AllocError> {
@@ -136,6 +163,14 @@ fn show_command<'a>(alloc: Global) -> Result<Command<'a>, AllocError> {
         .arg(survey_word(alloc))
 }
 
+fn draw_command<'a>(alloc: Global) -> Result<Command<'a>, AllocError> {
+    let command = Command::new(alloc, "draw")
+        .about("Print a picture of a survey (SVG), with a least run where one is asked for")
+        .after_help(DRAW_HELP)
+        .arg(survey_word(alloc))?;
+    with_optional_run(alloc, command)?.arg(kind_option(alloc))
+}
+
 /// The command line of the program.
 pub fn command<'a>(alloc: Global) -> Result<Command<'a>, AllocError> {
     Command::new(alloc, "wendrupi")
@@ -147,7 +182,8 @@ pub fn command<'a>(alloc: Global) -> Result<Command<'a>, AllocError> {
         .subcommand(price_command(alloc)?)?
         .subcommand(desk_command(alloc)?)?
         .subcommand(pack_command(alloc)?)?
-        .subcommand(show_command(alloc)?)
+        .subcommand(show_command(alloc)?)?
+        .subcommand(draw_command(alloc)?)
 }
 
 const HELP: &str = "\
@@ -155,6 +191,8 @@ Example: wendrupi plan house.csv office landing 35 --names
 
 The status is 0 for an answer, 1 for a refusal or a trouble in a text, and 2 for a wrong
 command line or a file that cannot be read or written.";
+
+const BOUND_HELP: &str = "The most that the run may lose since its last repeater, in tenths of a decibel: 1 to 1000";
 
 const PLAN_HELP: &str = "\
 Examples: wendrupi plan house.csv office landing 35 --names
@@ -187,6 +225,10 @@ Example: wendrupi show house.survey > house.csv
 
 A survey file has no names, so the places are named by their numbers.";
 
+const DRAW_HELP: &str = "\
+Examples: wendrupi draw house.csv > house.svg
+          wendrupi draw house.csv office floor3 35 > house.svg";
+
 // A word of the command line.
 fn word_in<'a>(matches: &ArgMatches<'a>, id: &str) -> anyhow::Result<&'a str> {
     matches.get_str(id).context("a word is missing")
@@ -201,12 +243,26 @@ fn run_in<'a>(matches: &ArgMatches<'a>) -> anyhow::Result<RunWords<'a>> {
     })
 }
 
+// The kind that is asked for.
+fn kind_in(matches: &ArgMatches<'_>) -> anyhow::Result<Kind> {
+    Kind::of_word(word_in(matches, "kind")?).context("there is no such kind")
+}
+
+// The run that is asked for, if one is.
+fn optional_run_in<'a>(matches: &ArgMatches<'a>) -> anyhow::Result<Option<RunWords<'a>>> {
+    if matches.contains_id("start") {
+        Ok(Some(run_in(matches)?))
+    } else {
+        Ok(None)
+    }
+}
+
 fn plan_in<'a>(matches: &ArgMatches<'a>) -> anyhow::Result<Asked<'a>> {
     Ok(Asked::Plan {
         survey: word_in(matches, "survey")?,
         run: run_in(matches)?,
         options: PlanOptions {
-            kind: Kind::of_word(word_in(matches, "kind")?).context("there is no such kind")?,
+            kind: kind_in(matches)?,
             has_names: matches.get_flag("names"),
         },
     })
@@ -232,6 +288,11 @@ pub fn asked_in<'a>(matches: &ArgMatches<'a>) -> anyhow::Result<Asked<'a>> {
             file: word_in(words, "file")?,
         }),
         "show" => Ok(Asked::Show { survey }),
+        "draw" => Ok(Asked::Draw {
+            survey,
+            run: optional_run_in(words)?,
+            kind: kind_in(words)?,
+        }),
         _ => anyhow::bail!("there is no subcommand {name}"),
     }
 }

@@ -4,7 +4,9 @@ use crate::answer::Answer;
 use crate::args::{Asked, PlanOptions, RunWords};
 use crate::calls::read_calls;
 use crate::desk::desk;
+use crate::draw::{draw, draw_run};
 use crate::input::{NamedSurvey, Unread, read_survey};
+use crate::kind::Kind;
 use crate::pack::{packed, shown};
 use crate::place::place_of_word;
 use crate::plan::plan;
@@ -93,6 +95,18 @@ fn show_in(rt: &HostRuntime, input: &NamedSurvey) -> anyhow::Result<Answer> {
     Ok(Answer::given(shown(rt.alloc(), input)?))
 }
 
+fn draw_in(
+    rt: &HostRuntime,
+    input: &NamedSurvey,
+    run: Option<RunWords<'_>>,
+    kind: Kind,
+) -> anyhow::Result<Answer> {
+    match run {
+        Some(run) => draw_run(rt.alloc(), input, request_in(input, run)?, kind),
+        None => draw(rt.alloc(), input),
+    }
+}
+
 /// What a command line comes to.
 pub fn answer(rt: &HostRuntime, asked: Asked<'_>) -> anyhow::Result<Answer> {
     let input = match survey_in(rt, asked.survey())? {
@@ -105,5 +119,6 @@ pub fn answer(rt: &HostRuntime, asked: Asked<'_>) -> anyhow::Result<Answer> {
         Asked::Desk { calls, .. } => desk_in(rt, &input, calls),
         Asked::Pack { survey, file } => pack_in(rt, &input, survey, file),
         Asked::Show { .. } => show_in(rt, &input),
+        Asked::Draw { run, kind, .. } => draw_in(rt, &input, run, kind),
     }
 }

@@ -9,6 +9,7 @@ mod args;
 mod calls;
 mod commands;
 mod desk;
+mod draw;
 mod input;
 mod kind;
 mod lines;
