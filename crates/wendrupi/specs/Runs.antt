@@ -1,16 +1,24 @@
 -- What a plan comes to that has as many rows as it needs: a least run with its total, or a refusal. Stands on runs and on the
 -- checks of a request.
 use Rattle.std.specs.Prelude.{◌≡◌, ℕ, ◌+◌, ◌*◌, ◌⊎◌, min, List, length, Result, MatchResult, vec_items}
+use Rattle.subject.specs.declared.charge.Charge.{Ghosts as ChargeGhosts}
 use Rattle.subject.specs.declared.refusal.Refusal.{Refusal}
 use Rattle.subject.specs.declared.refusal.Refusal.TheVariants.{NoRun}
 use Rattle.subject.specs.declared.run.Request.{Request}
 use Rattle.subject.specs.declared.run.TheConstants.{MOST_BOUND}
-use Rattle.subject.specs.Problems.{Problem}
+use Rattle.subject.specs.Problems.{Problem, kind_of}
 use Rattle.subject.specs.Runs.{IsLeast, NoLawfulRun}
+use Rattle.survey.specs.declared.entry.WayEntry.{WayEntry}
 use Rattle.survey.specs.Contents.{Contents}
+use Rattle.survey.specs.SurveySite.{survey_site}
 use Rattle.answers.specs.Plans.{IsPlanAnswer}
 use Rattle.search.specs.Checks.{RequestPasses, RequestCause}
 use Rattle.wendrupi.specs.declared.plan.Run.{Run}
+
+-- what is asked of a run over a survey, for a charge kind in which ways and repeaters are charged so
+abbrev pub problem_over : {K : Type 0} → ChargeGhosts K → (WayEntry → K) → (ℕ → K) → Contents → Request → Problem K
+problem_over k of_way of_repeater c q =
+    record { kind = kind_of k; site = survey_site of_way of_repeater c; request = q }
 
 -- how many rows a plan over so many places with this bound needs; a bound over 1,000 is refused
 abbrev pub row_count : ℕ → ℕ → ℕ

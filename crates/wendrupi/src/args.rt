@@ -75,16 +75,31 @@ fn word<'a>(alloc: Global, id: &'a str, value_name: &'a str, help: &'a str) -> A
 
 // The survey, which each subcommand has first.
 fn survey_word<'a>(alloc: Global) -> Arg<'a> {
-    word(alloc, "survey", "SURVEY", "A survey: its text (CSV), or its survey file")
+    word(
+        alloc,
+        "survey",
+        "SURVEY",
+        "A survey: its text (CSV), or its survey file",
+    )
 }
 
 // The three words of a run.
 fn start_word<'a>(alloc: Global) -> Arg<'a> {
-    word(alloc, "start", "START", "The place where the run starts, by name or number")
+    word(
+        alloc,
+        "start",
+        "START",
+        "The place where the run starts, by name or number",
+    )
 }
 
 fn end_word<'a>(alloc: Global) -> Arg<'a> {
-    word(alloc, "end", "END", "The place where it ends, by name or number")
+    word(
+        alloc,
+        "end",
+        "END",
+        "The place where it ends, by name or number",
+    )
 }
 
 fn bound_word<'a>(alloc: Global) -> Arg<'a> {
@@ -142,7 +157,9 @@ fn price_command<'a>(alloc: Global) -> Result<Command<'a>, AllocError> {
 
 fn desk_command<'a>(alloc: Global) -> Result<Command<'a>, AllocError> {
     Command::new(alloc, "desk")
-        .about("Try calls on a job over a survey, and print what each gives and the sheet of the last")
+        .about(
+            "Try calls on a job over a survey, and print what each gives and the sheet of the last",
+        )
         .after_help(DESK_HELP)
         .arg(survey_word(alloc))?
         .arg(word(alloc, "calls", "CALLS", "The calls, as a text"))
@@ -192,7 +209,8 @@ Example: wendrupi plan house.csv office landing 35 --names
 The status is 0 for an answer, 1 for a refusal or a trouble in a text, and 2 for a wrong
 command line or a file that cannot be read or written.";
 
-const BOUND_HELP: &str = "The most that the run may lose since its last repeater, in tenths of a decibel: 1 to 1000";
+const BOUND_HELP: &str =
+    "The most that the run may lose since its last repeater, in tenths of a decibel: 1 to 1000";
 
 const PLAN_HELP: &str = "\
 Examples: wendrupi plan house.csv office landing 35 --names
@@ -239,7 +257,9 @@ fn run_in<'a>(matches: &ArgMatches<'a>) -> anyhow::Result<RunWords<'a>> {
     Ok(RunWords {
         start: word_in(matches, "start")?,
         end: word_in(matches, "end")?,
-        bound: matches.get_one::<usize>("bound").context("BOUND is no number")?,
+        bound: matches
+            .get_one::<usize>("bound")
+            .context("BOUND is no number")?,
     })
 }
 
@@ -300,7 +320,10 @@ pub fn asked_in<'a>(matches: &ArgMatches<'a>) -> anyhow::Result<Asked<'a>> {
 /// Why a command line is wrong, in one line.
 pub fn trouble(alloc: Global, error: &Error) -> Result<anyhow::Error, AllocError> {
     let text = format!(in alloc; "{error}")?;
-    let (first, _) = text.as_str().split_once("\n\n").unwrap_or((text.as_str(), ""));
+    let (first, _) = text
+        .as_str()
+        .split_once("\n\n")
+        .unwrap_or((text.as_str(), ""));
     let cause = first.strip_prefix("error: ").unwrap_or(first);
     let mut line = String::new(alloc);
     for part in cause.lines() {

@@ -65,11 +65,7 @@ fn place_at<'a>(names: &[String], words: &'a ByteRecord, at: usize) -> Result<us
 }
 
 // What the words of a plan say.
-fn plan_says(
-    alloc: Global,
-    names: &[String],
-    words: &ByteRecord,
-) -> Result<LineSays, AllocError> {
+fn plan_says(alloc: Global, names: &[String], words: &ByteRecord) -> Result<LineSays, AllocError> {
     if words.len() != 4 {
         return Ok(LineSays::NoCall);
     }
@@ -78,9 +74,7 @@ fn plan_says(
     };
     match (place_at(names, words, 1), place_at(names, words, 2)) {
         (Ok(start), Ok(end)) => Ok(LineSays::Call(Call::Plan(Request { start, end, bound }))),
-        (Err(word), _) | (_, Err(word)) => {
-            Ok(LineSays::NoPlace(String::from_str(alloc, word)?))
-        }
+        (Err(word), _) | (_, Err(word)) => { Ok(LineSays::NoPlace(String::from_str(alloc, word)?)) }
     }
 }
 
@@ -97,7 +91,10 @@ fn line_says(alloc: Global, names: &[String], line: &[u8]) -> Result<LineSays, A
 }
 
 // The script of the calls that were read, up to the line with this number.
-fn script_of(mut entries: Vec<Entry<subject::money::Money>>, line: u64) -> Result<Script, CallsTrouble> {
+fn script_of(
+    mut entries: Vec<Entry<subject::money::Money>>,
+    line: u64,
+) -> Result<Script, CallsTrouble> {
     match entries.pop() {
         None => Err(CallsTrouble::NoScript(Trouble::NoLines)),
         Some(entry) => match entry.call {

@@ -70,9 +70,9 @@ fn desk_in(rt: &HostRuntime, input: &NamedSurvey, name: &str) -> anyhow::Result<
     let text = bytes_of(rt, name)?;
     match read_calls(alloc, &input.names, &text)? {
         Ok(script) => desk(alloc, &input.survey, script),
-        Err(trouble) => Ok(Answer::trouble(
-            format!(in alloc; "{name}: {trouble}; nothing was tried\n")?,
-        )),
+        Err(trouble) => Ok(Answer::trouble(format!(in alloc;
+            "{name}: {trouble}; nothing was tried\n"
+        )?)),
     }
 }
 

@@ -1,11 +1,7 @@
-//! The lines of a text on which something is asked for.
+//! The lines of a text of steps or of calls.
 
-/// A line of a text, with its number from 1.
-#[derive(Clone, Copy, Debug)]
-pub struct NumberedLine<'a> {
-    pub number: usize,
-    pub line: &'a [u8],
-}
+ghost use Rattle.std.specs.Prelude.{◌≡◌};
+ghost use Rattle.wendrupi.specs.Lines.{says_nothing};
 
 /// A line without the carriage return that ends it.
 pub fn without_return(line: &[u8]) -> &[u8] {
@@ -13,6 +9,11 @@ pub fn without_return(line: &[u8]) -> &[u8] {
 }
 
 /// Whether a line is blank or a remark.
-pub fn says_nothing(line: &[u8]) -> bool {
-    line.is_empty() || line.starts_with(b"#")
+pub fn says_nothing(line: &[u8]) -> bool
+    ensures { result ≡ says_nothing line.now }
+{
+    match line {
+        [] => true,
+        [first, ..] => *first == b'#',
+    }
 }

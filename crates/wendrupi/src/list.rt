@@ -108,7 +108,8 @@ pub fn push_list(
     writeln!(text, "")?;
     writeln!(
         text,
-        "{:<from_width$}  {:<to_width$}  CABLE  METRES  LOSS  REPEATER", "FROM", "TO"
+        "{:<from_width$}  {:<to_width$}  CABLE  METRES  LOSS  REPEATER",
+        "FROM", "TO"
     )?;
     for step in listed {
         let line = Line { step, widths };

@@ -1,8 +1,6 @@
 ghost use Rattle.std.specs.Prelude.{◌≡◌, ◌≤◌, take, IfOk};
-ghost use Rattle.subject.specs.Problems.{problem_of};
 ghost use Rattle.survey.specs.Sealing.{sealed_contents};
-ghost use Rattle.survey.specs.SurveySite.{survey_site};
-ghost use Rattle.wendrupi.specs.Runs.{IsPlanned, IsMoneyAnswer, page_of, row_count};
+ghost use Rattle.wendrupi.specs.Runs.{IsPlanned, IsMoneyAnswer, page_of, problem_over, row_count};
 
 use crate::answer::Answer;
 use crate::args::PlanOptions;
@@ -48,13 +46,8 @@ pub fn planned<K: Charged>(
     survey: &Sealed,
     request: Request,
 ) -> Result<Result<Run<K>, Refusal>, AllocError>
-    ensures {
-        IfOk result (IsPlanned (record {
-            kind = K.Charge.Charge;
-            site = survey_site K.Charged.of_way K.Charged.of_repeater (sealed_contents survey.now);
-            request = request
-        }))
-    }
+    ensures { IfOk result (IsPlanned
+        (problem_over K.Charge K.Charged.of_way K.Charged.of_repeater (sealed_contents survey.now) request)) }
 {
     let count = row_count(survey.places(), request.bound);
     let mut rows: OwnedRows<K> = OwnedRows::blank(alloc, count)?;
@@ -94,7 +87,14 @@ fn sheet_of(
     steps: &[Step],
 ) -> anyhow::Result<Vec<u8>> {
     let mut text = Vec::new(alloc);
-    print_sheet(alloc, &mut text, survey, request, steps, page_of(steps.len()))?;
+    print_sheet(
+        alloc,
+        &mut text,
+        survey,
+        request,
+        steps,
+        page_of(steps.len()),
+    )?;
     Ok(text)
 }
 

@@ -19,6 +19,13 @@ pub fn price(
     ensures { IfOk result (λ a. Shown survey.now request steps.now (page_of (length steps.now)) a.text.items) }
 {
     let mut text = Vec::new(alloc);
-    print_sheet(alloc, &mut text, survey, request, steps, page_of(steps.len()))?;
+    print_sheet(
+        alloc,
+        &mut text,
+        survey,
+        request,
+        steps,
+        page_of(steps.len()),
+    )?;
     Ok(Answer::of_text(text))
 }

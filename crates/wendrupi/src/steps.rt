@@ -60,15 +60,22 @@ fn text_of(alloc: Global, step: Step) -> Result<String, AllocError>
     format!(in alloc; "{way} {mark}")
 }
 
+// The step over this way with this mark, if both are there.
+fn step_with(way: Option<usize>, mark: Option<bool>) -> Option<Step>
+    ensures { (s : Drawn) → way ≡ Some s.way → mark ≡ Some s.mark → result ≡ Some s }
+{
+    Some(Step {
+        way: way?,
+        mark: mark?,
+    })
+}
+
 // What the words of a line say, if they say anything.
 fn words_say(line: &str) -> Option<Step>
     ensures { (s : Drawn) → s.way < 2 ^ 64 → line.now ≡ step_text s → result ≡ Some s }
 {
     let (way, mark) = line.split_once(' ')?;
-    Some(Step {
-        way: number(way)?,
-        mark: mark_of(mark)?,
-    })
+    step_with(number(way), mark_of(mark))
 }
 
 /// The step of which a line is the text, to the byte, or none.

@@ -171,7 +171,8 @@ fn a_plan_is_listed(rt: HostRuntime) -> Result<(), Fail> {
         b"RUN 0 3 35\n0 0 1 22 R\n1 1 3 22 -\nTOTAL 2600\nGRADE 1\n\n\
 FROM      TO        CABLE  METRES  LOSS  REPEATER\n\
 office    cupboard  U          10    22  R\n\
-cupboard  floor 3   U          10    22  -\n".as_slice()
+cupboard  floor 3   U          10    22  -\n"
+            .as_slice()
     );
     Ok(())
 }
