@@ -133,8 +133,11 @@ fn replay_in<W: Write, Q: PriorityQueue<Charge = Money>>(
     print_plan(alloc, survey, last, memory.run, gave, out)
 }
 
-// Tries the calls of a script, with rows enough for the plan that needs most.
-fn try_script<W: Write>(
+/// Tries the calls of a script one by one on a job over a survey, for money, and writes what each gave, and then the sheet of
+/// the script's last plan, or the line of its refusal, with rows enough for the plan that needs most.
+///
+/// There is an error only where memory is not had or the writer fails.
+pub fn try_script<W: Write>(
     alloc: Global,
     survey: &Sealed,
     mut script: Script,

@@ -24,8 +24,8 @@ fn place_named(names: &[String], word: &[u8]) -> Option<usize>
     None
 }
 
-// The place of this number, of so many.
-fn place_numbered(places: usize, word: &[u8]) -> Option<usize>
+/// The place of this number, of so many, where the number is in digits.
+pub fn place_numbered(places: usize, word: &[u8]) -> Option<usize>
     ensures place { IfSome result (λ n. n < places) }
     ensures value { result ≡ place_numbered places word.now }
 {
