@@ -15,7 +15,7 @@ returns-in-Ok g c =
     let rows = c.row_count-count.ensures ∙ ap (λ p. row_count p c.args.request.bound) places in
     subst (λ k. RunFound (problem_over g.K.Charge g.K.Charged.of_way g.K.Charged.of_repeater k c.args.request) c.run_in.result)
     c.over.ensures
-    (plan_comes _ _ _ _ n (Ok c.in-Ok.planned) rows (owned_counts n _ _ _ _ _ held.cells queue held.run) c.in-Ok.ensures.1
+    (plan_comes _ _ _ _ n (Ok c.in-Ok.planned) rows (owned_counts n _ _ _ _ _ held.cells queue held.run) c.in-Ok.ensures.outcome.1
     c.run_in.result c.run_in.ensures.steps c.run_in.ensures.total)
 
 pub returns-in-Err : goal.returns-in-Err
@@ -28,4 +28,4 @@ returns-in-Err g c =
     let rows = c.row_count-count.ensures ∙ ap (λ p. row_count p c.args.request.bound) places in
     subst (λ k. RunRefused (problem_over g.K.Charge g.K.Charged.of_way g.K.Charged.of_repeater k c.args.request) c.in-Err.refusal)
     c.over.ensures
-    (plan_comes _ _ _ _ n (Err c.in-Err.refusal) rows (owned_counts n _ _ _ _ _ held.cells queue held.run) c.in-Err.ensures.1)
+    (plan_comes _ _ _ _ n (Err c.in-Err.refusal) rows (owned_counts n _ _ _ _ _ held.cells queue held.run) c.in-Err.ensures.outcome.1)
