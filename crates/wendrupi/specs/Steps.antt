@@ -1,4 +1,5 @@
--- The text of a step: the number of its way, a space, and R where a repeater is set or - where none is. Stands on steps.
+-- The text of a step: the number of its way, a space, and R where a repeater is set or - where none is. Stands on
+-- steps.
 use Rattle.std.specs.Prelude.{◌≢◌, ℕ, ◌^◌, ◌<◌, Bool, true, false, List, ◌++◌, decimal, codes}
 use Rattle.subject.specs.declared.run.Step.{Step}
 
