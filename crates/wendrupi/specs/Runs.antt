@@ -1,5 +1,5 @@
--- What a plan comes to that has as many rows as it needs: a least run with its total, or a refusal. Stands on runs and on the
--- checks of a request.
+-- What a plan comes to that has as many rows as it needs: a least run with its total, or a refusal. Stands on runs and
+-- on the checks of a request.
 use Rattle.std.specs.Prelude.{◌≡◌, ℕ, ◌+◌, ◌*◌, ◌⊎◌, min, List, length, Result, MatchResult, vec_items}
 use Rattle.subject.specs.declared.charge.Charge.{Ghosts as ChargeGhosts}
 use Rattle.subject.specs.declared.refusal.Refusal.{Refusal}

@@ -1,5 +1,6 @@
--- The text of a step: the number of its way, a space, and R where a repeater is set or - where none is. Stands on steps.
-use Rattle.std.specs.Prelude.{◌≡◌, ◌≢◌, ℕ, ◌^◌, ◌<◌, Bool, true, false, List, ◌++◌, decimal, codes}
+-- The text of a step: the number of its way, a space, and R where a repeater is set or - where none is. Stands on
+-- steps.
+use Rattle.std.specs.Prelude.{◌≢◌, ℕ, ◌^◌, ◌<◌, Bool, true, false, List, ◌++◌, decimal, codes}
 use Rattle.subject.specs.declared.run.Step.{Step}
 
 abbrev pub mark_text : Bool → List ℕ

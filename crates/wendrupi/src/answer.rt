@@ -3,8 +3,7 @@ ghost use Rattle.sheet.specs.Refused.{refusal_text};
 
 use sheet::print::print_refusal;
 use sheet::refused::Refused;
-use std::alloc::{AllocError, Global};
-use subject::refusal::Refusal;
+use std::alloc::Global;
 
 /// Whether something was answered, or refused.
 #[derive(Clone, Copy, Debug, PartialEq, Eq)]

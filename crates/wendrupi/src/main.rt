@@ -1,7 +1,7 @@
 //! A program for an estimator at a prompt: it plans, prices and draws cable runs over a survey, and converts surveys.
 //!
-//! Status 0 is an answer and 1 is a refusal or a trouble in a text; both are on standard output. Status 2 is a wrong command
-//! line, or a file that cannot be read or written; a line on standard error says which.
+//! Status 0 is an answer and 1 is a refusal or a trouble in a text; both are on standard output. Status 2 is a wrong
+//! command line, or a file that cannot be read or written; a line on standard error says which.
 #![tactic(auto)]
 
 mod answer;

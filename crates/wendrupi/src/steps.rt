@@ -1,4 +1,5 @@
-//! The steps of a run as a text, a step to a line: the number of its way, and R where a repeater is set or - where none is.
+//! The steps of a run as a text, a step to a line: the number of its way, and R where a repeater is set or - where
+//! none is.
 
 ghost use Rattle.std.specs.Prelude.{◌≡◌, ℕ, ◌^◌, ◌<◌, IfOk, IfSome, IfNone, Some, Bool, decimal, string_bytes};
 ghost use Rattle.subject.specs.declared.run.Step.{Step as Drawn};

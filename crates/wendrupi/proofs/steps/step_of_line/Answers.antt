@@ -1,5 +1,5 @@
 -- The text of a step is plain ASCII, hence UTF-8; so a line that is not UTF-8 is the text of none.
-use Rattle.std.proofs.Common.{ℕ, ◌^◌, ◌<◌, Bool, true, false, ◌++◌, IsAscii, codes, decimal, sym, subst, arith}
+use Rattle.std.proofs.Common.{◌^◌, ◌<◌, Bool, true, false, ◌++◌, IsAscii, codes, decimal, sym, subst, arith}
 use Rattle.std.specs.List.{AllByRecursion as All}
 use Rattle.std.proofs.ByRecursion.{IsAscii-from_all, All-from_ascii, All-append}
 use Rattle.std.proofs.lemmas.Fmt.{IsAscii-decimal}
