@@ -3,6 +3,8 @@
 
 pub mod desk;
 #[cfg(test)]
+mod example;
+#[cfg(test)]
 mod failing;
 pub mod line;
 pub mod price;
