@@ -141,7 +141,7 @@ def other_name(r, rows):
     return rows
 
 def own_numbers(r, rows):
-    """Some places have their own numbers as names, and ways may mean places by name or number."""
+    """Some places have their own numbers as names, ways may mean places by number, and a name may be there twice."""
     before = [row[1] for row in place_rows(rows)]
     for n, row in enumerate(place_rows(rows)):
         if r.random() < .6: row[1] = r.choice(['', '', '0', '00']) + str(n)
@@ -151,6 +151,7 @@ def own_numbers(r, rows):
             if row[0] == 'way':
                 n = before.index(row[k])
                 row[k] = r.choice([names[n], str(n), str(n), '0%d' % n])
+    if len(names) > 1 and r.random() < .3: r.choice(place_rows(rows)[1:])[1] = names[0]
     return rows
 
 def other_number(r, rows):
@@ -186,6 +187,19 @@ def other_width(r, rows):
         for row in rows: put(row, 8, '')
     return rows or [['']]
 
+def many_troubles(r, rows):
+    """Some words of one row are odd."""
+    row, names = r.choice(rows), [row[1] for row in place_rows(rows)] or ['']
+    ends = ['', 'nowhere', '0', r.choice(names), r.choice(names)]
+    odd = {1: ['', '7', r.choice(names), r.choice(NAMES)], 2: PRICES + ['-1'], 3: ['?']}
+    if row[0] == 'way':
+        odd = {1: ends, 2: ends, 3: ['', 'X', 'UTP'], 4: METRES + ['-1'], 5: PRICES + ['-1'], 6: GRADES, 7: ['?']}
+        # Such a row is read, but the survey refuses it.
+        refused = {2: [row[1]], 3: ['X', 'u'], 4: ['201'], 5: ['1000001'], 7: ['']}
+        odd = r.choice([odd, refused])
+    for column in r.sample(list(odd), r.choice([2, 2, 3])): put(row, column, r.choice(odd[column]))
+    return rows
+
 def other_order(r, rows):
     """Places stand after ways, or rows in any order."""
     if r.random() < .3: r.shuffle(rows)
@@ -220,12 +234,14 @@ def headings(r, rows):
     return among(r, rows, heads) if r.random() < .5 else rows or [['']]
 
 def as_many(r, rows):
-    """As many places or ways as there may be, or some more or fewer."""
+    """As many places or ways as there may be, or some more or fewer; the last one may be odd."""
     kind, full = r.choice([('place', 256), ('way', 1024)])
     row = row_of(r, rows, 'way')
     count = len(place_rows(rows) if kind == 'place' else [row for row in rows if row[0] == 'way'])
-    for n in range(full + r.choice([-1, 0, 0, 1, 5]) - count):
+    for n in range(full + r.choice([-1, 0, 1, 1, 1, 5]) - count):
         rows.append(['place', 'room %d' % n] if kind == 'place' else list(row))
+    if r.random() < .3: put(rows[-1], 2 if kind == 'place' else 5, r.choice(PRICES))
+    elif r.random() < .3: put(rows[-1], 3 if kind == 'place' else 7, '?')
     return rows
 
 def quoted(r, rows):
@@ -241,8 +257,9 @@ def quoted(r, rows):
 
 ROW_DAMAGE = {
     'name': other_name, 'own numbers': own_numbers, 'number': other_number, 'end': other_end, 'cable': other_cable,
-    'kind': other_kind, 'width': other_width, 'order': other_order, 'more places': more_places, 'remarks': remarks,
-    'blank rows': blank_rows, 'headings': headings, 'as many': as_many, 'quoted': quoted,
+    'kind': other_kind, 'width': other_width, 'many troubles': many_troubles, 'order': other_order,
+    'more places': more_places, 'remarks': remarks, 'blank rows': blank_rows, 'headings': headings, 'as many': as_many,
+    'quoted': quoted,
 }
 
 # ---- damage to the lines of a text
