@@ -8,3 +8,4 @@ pub mod Pages
 pub mod Sheets
 pub mod Files
 pub mod Enough
+pub mod Inputs

@@ -4,5 +4,6 @@
 pub mod desk;
 #[cfg(test)]
 mod failing;
+mod input;
 pub mod line;
 pub mod price;

@@ -1,19 +1,20 @@
 //! A request and a survey file, answered by the sheet of a cheapest run.
-ghost use Rattle.std.specs.Prelude.{OnOk};
+ghost use Rattle.std.specs.Prelude.{IfSome, OnOk, take};
 ghost use Rattle.survey.specs.Sealing.{sealed_contents};
 ghost use Rattle.search.specs.Memories.{counts_of, lent_memory};
 ghost use Rattle.sheet.specs.Printing.{SomePrinted};
-ghost use Rattle.answers.specs.Texts.{FileAnswer};
+ghost use Rattle.answers.specs.Texts.{FileAnswer, page_bytes};
 ghost use Rattle.answers.specs.Plans.{PlanText, IsPlanAnswer};
-ghost use Rattle.answers.specs.Line.{IsLineAnswer};
+ghost use Rattle.answers.specs.Line.{line_input, line_rows, IsLineAnswer};
 
+use crate::input::input_from;
 use relays::plan_for_money;
 use search::memory::Memory;
 use search::owned::OwnedRows;
 use sheet::print::{PAGE, print_refusal, print_sheet, request_in, survey_in};
 use sheet::refused::Refused;
 use std::alloc::Global;
-use std::io::Write;
+use std::io::{Read, Write};
 use subject::money::Money;
 use subject::queue::PriorityQueue;
 use subject::run::Request;
@@ -87,7 +88,7 @@ fn answer_file<W: Write>(
     out: &mut W,
 ) -> anyhow::Result<()>
     ensures { OnOk result (SomePrinted W.Write out.old out.new
-        (FileAnswer file.now (λ c. IsPlanAnswer c request ROWS PAGE))) }
+        (FileAnswer file.now (λ c. IsPlanAnswer c request line_rows page_bytes))) }
 {
     match survey_in(alloc, out, file)? {
         Some(survey) => answer_plan(alloc, &survey, request, ROWS, PAGE, out),
@@ -107,6 +108,22 @@ pub fn answer<W: Write>(alloc: Global, input: &[u8], out: &mut W) -> anyhow::Res
         Ok(request) => answer_file(alloc, request, &input[REQUEST_LENGTH..], out),
         Err(fault) => print_refusal(out, Refused::File(fault)),
     }
+}
+
+/// Reads the input from a reader, and answers it to a writer.
+///
+/// Of the reader at most `MOST_INPUT` bytes are read, and answered as `answer` does; what is behind them is left with it. An
+/// error comes only where memory is not had, or the reader or the writer fails.
+pub fn answer_from<R: Read, W: Write>(
+    alloc: Global,
+    source: &mut R,
+    out: &mut W,
+) -> anyhow::Result<()>
+    ensures { IfSome (R.Read.remaining source.old) (λ bytes. OnOk result (SomePrinted W.Write out.old out.new
+        (IsLineAnswer (take line_input bytes)))) }
+{
+    let input = input_from(alloc, source, MOST_INPUT)?;
+    answer(alloc, &input, out)
 }
 
 #[cfg(test)]
