@@ -139,6 +139,16 @@ mod tests {
         Ok(())
     }
 
+    // The input is read from a reader, in which it comes in two pieces.
+    #[test]
+    fn a_reader_is_answered(rt: HostRuntime) -> Result<(), Fail> {
+        let mut source = std::io::Read::chain(&INPUT[..9], &INPUT[9..]);
+        let mut out = Vec::new(rt.alloc());
+        assert!(rt; answer_from(rt.alloc(), &mut source, &mut out).is_ok());
+        assert_eq!(rt; out.as_slice(), SHEET);
+        Ok(())
+    }
+
     // There are fewer bytes than eleven steps have.
     #[test]
     fn steps_are_cut_short(rt: HostRuntime) -> Result<(), Fail> {
