@@ -8,4 +8,3 @@ pub mod Pages
 pub mod Sheets
 pub mod Files
 pub mod Enough
-pub mod Inputs

@@ -1,5 +1,6 @@
 // The input of a program: what a reader gives, up to a number of bytes.
 ghost use Rattle.std.specs.Prelude.{◌≡◌, IfOk, IfSome, take};
+ghost use Rattle.std.specs.Io.KnownBytes.{Consumes};
 
 use sheet::print::fill;
 use std::alloc::Global;
@@ -11,7 +12,9 @@ pub(crate) fn input_from<R: Read>(
     source: &mut R,
     most: usize,
 ) -> anyhow::Result<Vec<u8>>
-    ensures { IfSome (R.Read.remaining source.old) (λ bytes. IfOk result (λ input. input.items ≡ take most bytes)) }
+    ensures front { IfSome (R.Read.remaining source.old) (λ bytes. IfOk result (λ input. input.items ≡ take most bytes)) }
+    ensures left { IfOk result (λ input.
+        Consumes (R.Read.remaining source.old) (R.Read.remaining source.new) input.items) }
 {
     let mut input = vec![in alloc; 0u8; most]?;
     let count = fill(source, &mut input)?;

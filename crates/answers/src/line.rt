@@ -1,5 +1,6 @@
 //! A request and a survey file, answered by the sheet of a cheapest run.
 ghost use Rattle.std.specs.Prelude.{IfSome, OnOk, take};
+ghost use Rattle.std.specs.Io.KnownBytes.{Consumes};
 ghost use Rattle.survey.specs.Sealing.{sealed_contents};
 ghost use Rattle.search.specs.Memories.{counts_of, lent_memory};
 ghost use Rattle.sheet.specs.Printing.{SomePrinted};
@@ -112,15 +113,17 @@ pub fn answer<W: Write>(alloc: Global, input: &[u8], out: &mut W) -> anyhow::Res
 
 /// Reads the input from a reader, and answers it to a writer.
 ///
-/// Of the reader at most `MOST_INPUT` bytes are read, and answered as `answer` does; what is behind them is left with it. An
-/// error comes only where memory is not had, or the reader or the writer fails.
+/// Of the reader at most `MOST_INPUT` bytes are read, and answered as `answer` does; what is behind them is left with it.
+/// An error comes only where memory is not had, or the reader or the writer fails.
 pub fn answer_from<R: Read, W: Write>(
     alloc: Global,
     source: &mut R,
     out: &mut W,
 ) -> anyhow::Result<()>
-    ensures { IfSome (R.Read.remaining source.old) (λ bytes. OnOk result (SomePrinted W.Write out.old out.new
+    ensures answer { IfSome (R.Read.remaining source.old) (λ bytes. OnOk result (SomePrinted W.Write out.old out.new
         (IsLineAnswer (take line_input bytes)))) }
+    ensures left { IfSome (R.Read.remaining source.old) (λ bytes. OnOk result
+        (Consumes (R.Read.remaining source.old) (R.Read.remaining source.new) (take line_input bytes))) }
 {
     let input = input_from(alloc, source, MOST_INPUT)?;
     answer(alloc, &input, out)

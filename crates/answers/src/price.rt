@@ -1,5 +1,6 @@
 //! A run that was drawn by hand, answered by its sheet.
 ghost use Rattle.std.specs.Prelude.{◌≡◌, length, take, IfNone, IfOk, IfSome, OnOk};
+ghost use Rattle.std.specs.Io.KnownBytes.{Consumes};
 ghost use Rattle.sheet.specs.Printing.{SomePrinted};
 ghost use Rattle.answers.specs.Texts.{FileAnswer, page_bytes};
 ghost use Rattle.answers.specs.Price.{steps_in, IsCutShort, IsPartsOf, IsStepsAnswer, IsPriceAnswer, price_input};
@@ -103,15 +104,17 @@ pub fn answer<W: Write>(alloc: Global, input: &[u8], out: &mut W) -> anyhow::Res
 
 /// Reads the input from a reader, and answers it to a writer.
 ///
-/// Of the reader at most `MOST_INPUT` bytes are read, and answered as `answer` does; what is behind them is left with it. An
-/// error comes only where memory is not had, or the reader or the writer fails.
+/// Of the reader at most `MOST_INPUT` bytes are read, and answered as `answer` does; what is behind them is left with it.
+/// An error comes only where memory is not had, or the reader or the writer fails.
 pub fn answer_from<R: Read, W: Write>(
     alloc: Global,
     source: &mut R,
     out: &mut W,
 ) -> anyhow::Result<()>
-    ensures { IfSome (R.Read.remaining source.old) (λ bytes. OnOk result (SomePrinted W.Write out.old out.new
+    ensures answer { IfSome (R.Read.remaining source.old) (λ bytes. OnOk result (SomePrinted W.Write out.old out.new
         (IsPriceAnswer (take price_input bytes)))) }
+    ensures left { IfSome (R.Read.remaining source.old) (λ bytes. OnOk result
+        (Consumes (R.Read.remaining source.old) (R.Read.remaining source.new) (take price_input bytes))) }
 {
     let input = input_from(alloc, source, MOST_INPUT)?;
     answer(alloc, &input, out)
