@@ -52,4 +52,5 @@ IsPriceAnswer input text =
     MatchBool (nat_lt (length input) (file_start input))
     (text ≡ refusal_text (File (fault_of CutShort 0)))
     (FileAnswer (drop (file_start input) input)
-    (λ c. IsStepsAnswer c (request_at input) (steps_in (slice_range input steps_start (file_start input))) page_bytes) text)
+    (λ c. IsStepsAnswer c (request_at input)
+    (steps_in (slice_range input steps_start (file_start input))) page_bytes) text)

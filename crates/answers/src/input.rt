@@ -12,7 +12,8 @@ pub(crate) fn input_from<R: Read>(
     source: &mut R,
     most: usize,
 ) -> anyhow::Result<Vec<u8>>
-    ensures front { IfSome (R.Read.remaining source.old) (λ bytes. IfOk result (λ input. input.items ≡ take most bytes)) }
+    ensures front { IfSome (R.Read.remaining source.old) (λ bytes.
+        IfOk result (λ input. input.items ≡ take most bytes)) }
     ensures left { IfOk result (λ input.
         Consumes (R.Read.remaining source.old) (R.Read.remaining source.new) input.items) }
 {

@@ -104,8 +104,8 @@ pub fn answer<W: Write>(alloc: Global, input: &[u8], out: &mut W) -> anyhow::Res
 
 /// Reads the input from a reader, and answers it to a writer.
 ///
-/// Of the reader at most `MOST_INPUT` bytes are read, and answered as `answer` does; what is behind them is left with it.
-/// An error comes only where memory is not had, or the reader or the writer fails.
+/// At most `MOST_INPUT` bytes are read, and answered as `answer` does; what is behind them is left with the reader. An
+/// error comes only where memory is not had, or the reader or the writer fails.
 pub fn answer_from<R: Read, W: Write>(
     alloc: Global,
     source: &mut R,

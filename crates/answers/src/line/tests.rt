@@ -44,8 +44,8 @@ fn a_writer_fails(rt: HostRuntime) -> Result<(), Fail> {
     Ok(())
 }
 
-// A request for a run from the first to the last of 64 places in a row, and the file of these places, with repeaters at one
-// cent each, and of the ways between, which lose 22 and are one cent each.
+// A request for a run from the first to the last of 64 places in a row, and the file of these places, with repeaters at
+// one cent each, and of the ways between, which lose 22 and are one cent each.
 fn row_of_places(alloc: Global, bound: u8) -> Result<Vec<u8>, AllocError> {
     let mut input = Vec::new(alloc);
     input.extend_from_slice(&[0, 0, 0, 63, 0, bound, 1, 0, 2, 0, 1])?;
@@ -57,8 +57,8 @@ fn row_of_places(alloc: Global, bound: u8) -> Result<Vec<u8>, AllocError> {
     Ok(input)
 }
 
-// There are rows enough for 64 places with losses of 0 to 60, and no more. Two ways lose 44, so that a repeater is hung after
-// every second way, which is 31 of them.
+// There are rows enough for 64 places with losses of 0 to 60, and no more. Two ways lose 44, so that a repeater is hung
+// after every second way, which is 31 of them.
 #[test]
 fn sixty_four_places_have_rows_enough(rt: HostRuntime) -> Result<(), Fail> {
     let mut out = Vec::new(rt.alloc());
@@ -73,7 +73,8 @@ fn sixty_four_places_have_rows_enough(rt: HostRuntime) -> Result<(), Fail> {
     Ok(())
 }
 
-// A request for a run from the place 0 to 1, and the longest file: 256 places with repeaters, and 1,024 ways from 0 to 1.
+// A request for a run from the place 0 to 1, and the longest file: 256 places with repeaters, and 1,024 ways from 0
+// to 1.
 fn longest_input(alloc: Global) -> Result<Vec<u8>, AllocError> {
     let way = [3, 0, 12, 0, 0, 0, 1, 85, 1, 0, 1, 0, 0, 1, 44];
     let mut input = Vec::new(alloc);
