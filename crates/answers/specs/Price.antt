@@ -7,23 +7,28 @@ use Rattle.subject.specs.declared.run.Request.{Request}
 use Rattle.survey.specs.Contents.{Contents}
 use Rattle.survey.specs.SurveySite.{money_problem}
 use Rattle.survey_file.specs.Fields.{fault_of, two_at}
-use Rattle.sheet.specs.declared.print.TheConstants.{PAGE}
 use Rattle.sheet.specs.declared.refused.Refused.TheVariants.{File}
 use Rattle.sheet.specs.Refused.{refusal_text}
 use Rattle.sheet.specs.Requests.{request_at}
 use Rattle.sheet.specs.Printing.{SheetShown, RefusalShown}
-use Rattle.answers.specs.declared.line.TheConstants.{REQUEST_LENGTH}
-use Rattle.answers.specs.declared.price.TheConstants.{STEPS_START, STEP_LENGTH}
-use Rattle.answers.specs.Texts.{FileAnswer}
+use Rattle.answers.specs.Texts.{FileAnswer, page_bytes}
 
 -- the steps in bytes: of each the way in two bytes, high byte first, and a byte that is 1 for a mark
 abbrev pub steps_in : List ℕ → List Step
 steps_in (high ∷ low ∷ mark ∷ rest) = record { way = high * 256 + low; mark = mark == 1 } ∷ steps_in rest
 steps_in few = []
 
--- the survey file begins behind so many steps as the two bytes behind the request say
+-- the steps begin behind the six bytes of the request and the two bytes of their number
+abbrev pub steps_start : ℕ
+steps_start = 8
+
+-- the survey file begins behind so many steps, of three bytes each, as the two bytes behind the request say
 abbrev pub file_start : List ℕ → ℕ
-file_start input = STEPS_START + STEP_LENGTH * two_at input REQUEST_LENGTH
+file_start input = steps_start + 3 * two_at input 6
+
+-- so many bytes of its input are read at most: those of 65,535 steps and the longest survey file are 213,773
+abbrev pub price_input : ℕ
+price_input = 213774
 
 -- the input ends before
 abbrev pub IsCutShort : List ℕ → Type 0
@@ -33,7 +38,7 @@ IsCutShort input = length input < file_start input
 pub record IsPartsOf (input : List ℕ) (q : Request) (bytes behind : List ℕ) : Type 0 where
   pub long : file_start input ≤ length input
   pub request : q ≡ request_at input
-  pub steps : bytes ≡ slice_range input STEPS_START (file_start input)
+  pub steps : bytes ≡ slice_range input steps_start (file_start input)
   pub file : behind ≡ drop (file_start input) input
 
 -- the text is the sheet of the steps, on a page of so many bytes, or the line of the first cause why there is none
@@ -47,4 +52,5 @@ IsPriceAnswer input text =
     MatchBool (nat_lt (length input) (file_start input))
     (text ≡ refusal_text (File (fault_of CutShort 0)))
     (FileAnswer (drop (file_start input) input)
-    (λ c. IsStepsAnswer c (request_at input) (steps_in (slice_range input STEPS_START (file_start input))) PAGE) text)
+    (λ c. IsStepsAnswer c (request_at input)
+    (steps_in (slice_range input steps_start (file_start input))) page_bytes) text)

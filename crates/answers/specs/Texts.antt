@@ -7,7 +7,11 @@ use Rattle.survey_file.specs.Decode.{decode}
 use Rattle.sheet.specs.declared.refused.Refused.TheVariants.{Call, File}
 use Rattle.sheet.specs.Refused.{refusal_text}
 
--- a text that fits on a page of so many bytes, or that it does not
+-- so many bytes the sheet may have that a program prints
+abbrev pub page_bytes : ℕ
+page_bytes = 65536
+
+-- a text that fits on a page of so many bytes; in place of one that does not, the line `REFUSED 18`
 abbrev pub on_page : ℕ → List ℕ → List ℕ
 on_page page text = cond (nat_le (length text) page) text (refusal_text (Call NoRoom))
 

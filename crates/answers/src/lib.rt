@@ -6,5 +6,6 @@ pub mod desk;
 mod example;
 #[cfg(test)]
 mod failing;
+mod input;
 pub mod line;
 pub mod price;

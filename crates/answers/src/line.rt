@@ -1,19 +1,21 @@
 //! A request and a survey file, answered by the sheet of a cheapest run.
-ghost use Rattle.std.specs.Prelude.{OnOk};
+ghost use Rattle.std.specs.Prelude.{IfSome, OnOk, take};
+ghost use Rattle.std.specs.Io.KnownBytes.{Consumes};
 ghost use Rattle.survey.specs.Sealing.{sealed_contents};
 ghost use Rattle.search.specs.Memories.{counts_of, lent_memory};
 ghost use Rattle.sheet.specs.Printing.{SomePrinted};
-ghost use Rattle.answers.specs.Texts.{FileAnswer};
+ghost use Rattle.answers.specs.Texts.{FileAnswer, page_bytes};
 ghost use Rattle.answers.specs.Plans.{PlanText, IsPlanAnswer};
-ghost use Rattle.answers.specs.Line.{IsLineAnswer};
+ghost use Rattle.answers.specs.Line.{line_input, line_rows, IsLineAnswer};
 
+use crate::input::input_from;
 use relays::plan_for_money;
 use search::memory::Memory;
 use search::owned::OwnedRows;
 use sheet::print::{PAGE, print_refusal, print_sheet, request_in, survey_in};
 use sheet::refused::Refused;
 use std::alloc::Global;
-use std::io::Write;
+use std::io::{Read, Write};
 use subject::money::Money;
 use subject::queue::PriorityQueue;
 use subject::run::Request;
@@ -87,7 +89,7 @@ fn answer_file<W: Write>(
     out: &mut W,
 ) -> anyhow::Result<()>
     ensures { OnOk result (SomePrinted W.Write out.old out.new
-        (FileAnswer file.now (λ c. IsPlanAnswer c request ROWS PAGE))) }
+        (FileAnswer file.now (λ c. IsPlanAnswer c request line_rows page_bytes))) }
 {
     match survey_in(alloc, out, file)? {
         Some(survey) => answer_plan(alloc, &survey, request, ROWS, PAGE, out),
@@ -109,50 +111,23 @@ pub fn answer<W: Write>(alloc: Global, input: &[u8], out: &mut W) -> anyhow::Res
     }
 }
 
-#[cfg(test)]
-mod tests {
-    use super::*;
-    use crate::failing::Failing;
-    use std::test::Fail;
-
-    // A request for a run from the place 0 to 1, and a file of these two places and a way between them.
-    const INPUT: [u8; 35] = [
-        0, 0, 0, 1, 0, 35, 1, 0, 2, 0, 1, 2, 0, 0, 2, 0, 0, 3, 0, 12, 0, 0, 0, 1, 85, 1, 0, 10, 0,
-        0, 1, 44, 4, 0, 0,
-    ];
-
-    const SHEET: &[u8] = b"RUN 0 1 35\n0 0 1 22 -\nTOTAL 300\n";
-
-    #[test]
-    fn a_sheet_is_printed(rt: HostRuntime) -> Result<(), Fail> {
-        let mut out = Vec::new(rt.alloc());
-        assert!(rt; answer(rt.alloc(), &INPUT, &mut out).is_ok());
-        assert_eq!(rt; out.as_slice(), SHEET);
-        Ok(())
-    }
-
-    // The way loses 22, which is over the bound: no run is feasible.
-    #[test]
-    fn a_refusal_is_printed(rt: HostRuntime) -> Result<(), Fail> {
-        let mut input = INPUT;
-        input[5] = 21;
-        let mut out = Vec::new(rt.alloc());
-        assert!(rt; answer(rt.alloc(), &input, &mut out).is_ok());
-        assert_eq!(rt; out.as_slice(), b"REFUSED 17\n".as_slice());
-        Ok(())
-    }
-
-    // Wherever the writer fails, the call fails, and the front of the sheet was written.
-    #[test]
-    fn a_writer_fails(rt: HostRuntime) -> Result<(), Fail> {
-        for room in 0..SHEET.len() {
-            let mut out = Failing {
-                taken: Vec::new(rt.alloc()),
-                room,
-            };
-            assert!(rt; answer(rt.alloc(), &INPUT, &mut out).is_err());
-            assert_eq!(rt; out.taken.as_slice(), &SHEET[..room]);
-        }
-        Ok(())
-    }
+/// Reads the input from a reader, and answers it to a writer.
+///
+/// At most `MOST_INPUT` bytes are read, and answered as `answer` does; what is behind them is left with the reader. An
+/// error comes only where memory is not had, or the reader or the writer fails.
+pub fn answer_from<R: Read, W: Write>(
+    alloc: Global,
+    source: &mut R,
+    out: &mut W,
+) -> anyhow::Result<()>
+    ensures answer { IfSome (R.Read.remaining source.old) (λ bytes. OnOk result (SomePrinted W.Write out.old out.new
+        (IsLineAnswer (take line_input bytes)))) }
+    ensures left { IfSome (R.Read.remaining source.old) (λ bytes. OnOk result
+        (Consumes (R.Read.remaining source.old) (R.Read.remaining source.new) (take line_input bytes))) }
+{
+    let input = input_from(alloc, source, MOST_INPUT)?;
+    answer(alloc, &input, out)
 }
+
+#[cfg(test)]
+mod tests;

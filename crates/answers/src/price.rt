@@ -1,14 +1,16 @@
 //! A run that was drawn by hand, answered by its sheet.
-ghost use Rattle.std.specs.Prelude.{◌≡◌, length, IfNone, IfOk, IfSome, OnOk};
+ghost use Rattle.std.specs.Prelude.{◌≡◌, length, take, IfNone, IfOk, IfSome, OnOk};
+ghost use Rattle.std.specs.Io.KnownBytes.{Consumes};
 ghost use Rattle.sheet.specs.Printing.{SomePrinted};
-ghost use Rattle.answers.specs.Texts.{FileAnswer};
-ghost use Rattle.answers.specs.Price.{steps_in, IsCutShort, IsPartsOf, IsStepsAnswer, IsPriceAnswer};
+ghost use Rattle.answers.specs.Texts.{FileAnswer, page_bytes};
+ghost use Rattle.answers.specs.Price.{steps_in, IsCutShort, IsPartsOf, IsStepsAnswer, IsPriceAnswer, price_input};
 
+use crate::input::input_from;
 use crate::line::REQUEST_LENGTH;
 use sheet::print::{PAGE, print_refusal, print_sheet, request_in, survey_in};
 use sheet::refused::Refused;
 use std::alloc::{AllocError, Global};
-use std::io::Write;
+use std::io::{Read, Write};
 use subject::refusal::{Fault, Refusal};
 use subject::run::{Request, Step};
 use survey_file::writer::LONGEST_FILE;
@@ -68,7 +70,8 @@ fn read_steps(alloc: Global, bytes: &[u8]) -> Result<Vec<Step>, AllocError>
 // Prices the steps over the survey of the file.
 fn answer_parts<W: Write>(alloc: Global, parts: &Parts<'_>, out: &mut W) -> anyhow::Result<()>
     ensures { OnOk result (SomePrinted W.Write out.old out.new
-        (FileAnswer parts.now.file.now (λ c. IsStepsAnswer c parts.now.request (steps_in parts.now.steps.now) PAGE))) }
+        (FileAnswer parts.now.file.now
+        (λ c. IsStepsAnswer c parts.now.request (steps_in parts.now.steps.now) page_bytes))) }
 {
     let steps = read_steps(alloc, parts.steps)?;
     match survey_in(alloc, out, parts.file)? {
@@ -99,6 +102,24 @@ pub fn answer<W: Write>(alloc: Global, input: &[u8], out: &mut W) -> anyhow::Res
     }
 }
 
+/// Reads the input from a reader, and answers it to a writer.
+///
+/// At most `MOST_INPUT` bytes are read, and answered as `answer` does; what is behind them is left with the reader. An
+/// error comes only where memory is not had, or the reader or the writer fails.
+pub fn answer_from<R: Read, W: Write>(
+    alloc: Global,
+    source: &mut R,
+    out: &mut W,
+) -> anyhow::Result<()>
+    ensures answer { IfSome (R.Read.remaining source.old) (λ bytes. OnOk result (SomePrinted W.Write out.old out.new
+        (IsPriceAnswer (take price_input bytes)))) }
+    ensures left { IfSome (R.Read.remaining source.old) (λ bytes. OnOk result
+        (Consumes (R.Read.remaining source.old) (R.Read.remaining source.new) (take price_input bytes))) }
+{
+    let input = input_from(alloc, source, MOST_INPUT)?;
+    answer(alloc, &input, out)
+}
+
 #[cfg(test)]
 mod tests {
     use super::*;
@@ -117,6 +138,16 @@ mod tests {
     fn a_sheet_is_printed(rt: HostRuntime) -> Result<(), Fail> {
         let mut out = Vec::new(rt.alloc());
         assert!(rt; answer(rt.alloc(), &INPUT, &mut out).is_ok());
+        assert_eq!(rt; out.as_slice(), SHEET);
+        Ok(())
+    }
+
+    // The input is read from a reader, in which it comes in two pieces.
+    #[test]
+    fn a_reader_is_answered(rt: HostRuntime) -> Result<(), Fail> {
+        let mut source = std::io::Read::chain(&INPUT[..9], &INPUT[9..]);
+        let mut out = Vec::new(rt.alloc());
+        assert!(rt; answer_from(rt.alloc(), &mut source, &mut out).is_ok());
         assert_eq!(rt; out.as_slice(), SHEET);
         Ok(())
     }

@@ -2,12 +2,8 @@
 // refused.
 #![tactic(auto)]
 
-use answers::price::{MOST_INPUT, answer};
-use sheet::print::read_input;
+use answers::price::answer_from;
 
-// The input is in a buffer with a count beside it: the buffer bounds what is read.
 fn main(rt: HostRuntime) -> anyhow::Result<()> {
-    let mut input = vec![in rt.alloc(); 0u8; MOST_INPUT]?;
-    let count = read_input(&rt, &mut input)?;
-    answer(rt.alloc(), &input[..count], &mut rt.stdout())
+    answer_from(rt.alloc(), &mut rt.stdin(), &mut rt.stdout())
 }

@@ -1,7 +1,18 @@
 use super::answer;
+use job::list::{Answer, Call, Entry};
+use job::replay::replay_owned;
+use job::script::{Script, read_script};
+use relays::replay_owned_for_money;
+use search::owned::OwnedRows;
+use sheet::print::survey_in;
 use std::io;
 use std::io::Write;
 use std::test::Fail;
+use subject::money::Money;
+use subject::run::Request;
+use survey::view::MoneyView;
+use tree_queue::heap::Heap;
+use tree_queue::row::blank_rows;
 
 // The house of docs/SURVEY-FILE.md.
 const HOUSE: [u8; 88] = [
@@ -120,5 +131,62 @@ fn a_writer_fails(rt: HostRuntime) -> Result<(), Fail> {
         let Narrow { text, room: _ } = out;
         assert!(rt; ANSWERS.starts_with(text.as_slice()));
     }
+    Ok(())
+}
+
+// A script is read from a text: the listed calls, and the request of its last line.
+#[test]
+fn a_script_is_read(rt: HostRuntime) -> Result<(), Fail> {
+    let read = read_script(rt.alloc(), "close 2\nplan 0 3 35\n")?;
+    let Ok(Script { entries, last }) = read else {
+        return Err(Fail::from("the text is a script"));
+    };
+    assert_eq!(rt; entries.len(), 1);
+    assert!(rt; matches!(entries[0].call, Call::Close(2)));
+    assert!(rt; matches!(entries[0].answer, Answer::Untried));
+    assert_eq!(rt; last.start, 0);
+    assert_eq!(rt; last.end, 3);
+    assert_eq!(rt; last.bound, 35);
+    Ok(())
+}
+
+const AROUND: Request = Request {
+    start: 0,
+    end: 3,
+    bound: 35,
+};
+
+const CLOSE_2: Entry<Money> = Entry {
+    call: Call::Close(2),
+    answer: Answer::Untried,
+};
+
+// Over rows of one's own a call and a plan behind it are tried, for money by name and over a view.
+#[test]
+fn calls_are_tried_over_owned_rows(rt: HostRuntime) -> Result<(), Fail> {
+    let mut out = Vec::new(rt.alloc());
+    let Some(survey) = survey_in(rt.alloc(), &mut out, &HOUSE)? else {
+        return Err(Fail::from("the house is read"));
+    };
+    let mut rows = OwnedRows::blank(rt.alloc(), 144)?;
+    let mut queue_rows = blank_rows(rt.alloc(), 144)?;
+    let mut entries = [CLOSE_2];
+    let heap = Heap::over(&mut queue_rows);
+    let planned = replay_owned_for_money(
+        rt.alloc(),
+        &survey,
+        &mut entries,
+        AROUND,
+        &mut rows,
+        heap,
+    )?;
+    assert!(rt; matches!(planned, Ok(p) if p.steps == 2 && p.total.cents == 2600));
+    assert!(rt; matches!(entries[0].answer, Answer::Done));
+    let mut again = [CLOSE_2];
+    let heap = Heap::over(&mut queue_rows);
+    let view = MoneyView::over(&survey);
+    let planned = replay_owned(rt.alloc(), view, &mut again, AROUND, &mut rows, heap)?;
+    assert!(rt; matches!(planned, Ok(p) if p.steps == 2 && p.total.cents == 2600));
+    assert!(rt; matches!(again[0].answer, Answer::Done));
     Ok(())
 }

@@ -5,18 +5,18 @@ use Rattle.std.proofs.lemmas.List.{length-drop, take_all}
 use Rattle.std.proofs.lemmas.Result.{on_ok_weaker}
 use Rattle.subject.specs.declared.refusal.Fault.{Fault}
 use Rattle.subject.specs.declared.run.Request.{Request}
-use Rattle.sheet.specs.declared.print.TheConstants.{PAGE}
 use Rattle.sheet.specs.declared.refused.Refused.TheVariants.{File}
 use Rattle.sheet.specs.Refused.{refusal_text}
-use Rattle.answers.specs.declared.line.TheConstants.{REQUEST_LENGTH, ROWS}
-use Rattle.answers.specs.Texts.{FileAnswer}
+use Rattle.answers.specs.declared.line.TheConstants.{REQUEST_LENGTH}
+use Rattle.answers.specs.Line.{line_rows}
+use Rattle.answers.specs.Texts.{FileAnswer, page_bytes}
 use Rattle.answers.specs.Plans.{IsPlanAnswer}
 use Rattle.answers.proofs.line.answer.Goals as goal
 
 -- the text is what is answered to a request before a file
 abbrev Answered : List ℕ → Result Request Fault → List ℕ → Type 0
 Answered file request text =
-    MatchResult request (λ q. FileAnswer file (λ c. IsPlanAnswer c q ROWS PAGE) text) (λ f. text ≡ refusal_text (File f))
+    MatchResult request (λ q. FileAnswer file (λ c. IsPlanAnswer c q line_rows page_bytes) text) (λ f. text ≡ refusal_text (File f))
 
 pub returns-in-Ok : goal.returns-in-Ok
 returns-in-Ok g c =

@@ -5,9 +5,9 @@ use Rattle.std.specs.Result.{result_ok}
 use Rattle.std.proofs.lemmas.Result.{on_ok_weaker}
 use Rattle.survey.specs.Sealing.{sealed_contents}
 use Rattle.survey_file.specs.Decode.{decode}
-use Rattle.sheet.specs.declared.print.TheConstants.{PAGE}
-use Rattle.answers.specs.declared.line.TheConstants.{ROWS}
+use Rattle.answers.specs.Line.{line_rows}
 use Rattle.answers.specs.Plans.{IsPlanAnswer}
+use Rattle.answers.specs.Texts.{page_bytes}
 use Rattle.answers.proofs.Printed.{read_printed}
 use Rattle.answers.proofs.line.answer_file.Goals as goal
 
@@ -19,5 +19,5 @@ returns-in-Some g c =
     ap (option_map sealed_contents) (sym c.in-Some.is) ∙ told.survey in
     on_ok_weaker c.answer_plan.result
     (read_printed g.W.Write c.args.out.now c.survey_in.new.out c.answer_plan.new.out c.args.file.now
-    (λ d. IsPlanAnswer d c.args.request ROWS PAGE) contents read told.printed)
+    (λ d. IsPlanAnswer d c.args.request line_rows page_bytes) contents read told.printed)
     c.answer_plan.ensures

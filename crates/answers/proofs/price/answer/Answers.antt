@@ -8,16 +8,14 @@ use Rattle.subject.specs.declared.run.Request.{Request}
 use Rattle.survey_file.specs.Fields.{fault_of}
 use Rattle.sheet.specs.declared.refused.Refused.TheVariants.{File}
 use Rattle.sheet.specs.Refused.{refusal_text}
-use Rattle.sheet.specs.declared.print.TheConstants.{PAGE}
 use Rattle.sheet.specs.Requests.{request_at}
-use Rattle.answers.specs.declared.price.TheConstants.{STEPS_START}
-use Rattle.answers.specs.Texts.{FileAnswer}
-use Rattle.answers.specs.Price.{steps_in, file_start, IsStepsAnswer, IsPartsOf, IsPriceAnswer}
+use Rattle.answers.specs.Texts.{FileAnswer, page_bytes}
+use Rattle.answers.specs.Price.{steps_in, steps_start, file_start, IsStepsAnswer, IsPartsOf, IsPriceAnswer}
 use Rattle.answers.proofs.price.answer.Goals as goal
 
 -- the text is what is answered to these parts
 abbrev Answered : Request → List ℕ → List ℕ → List ℕ → Type 0
-Answered q bytes file text = FileAnswer file (λ c. IsStepsAnswer c q (steps_in bytes) PAGE) text
+Answered q bytes file text = FileAnswer file (λ c. IsStepsAnswer c q (steps_in bytes) page_bytes) text
 
 whole : (input : List ℕ) (q : Request) (bytes file text : List ℕ) → IsPartsOf input q bytes file → Answered q bytes file text
     → IsPriceAnswer input text
@@ -25,9 +23,9 @@ whole input q bytes file text p answer =
     let start = file_start input in
     let of_file = subst (λ f. Answered q bytes f text) p.file answer in
     let of_steps = subst (λ b. Answered q b (drop start input) text) p.steps of_file in
-    let of_request = subst (λ r. Answered r (slice_range input STEPS_START start) (drop start input) text) p.request of_steps in
+    let of_request = subst (λ r. Answered r (slice_range input steps_start start) (drop start input) text) p.request of_steps in
     subst (λ b. MatchBool b (text ≡ refusal_text (File (fault_of CutShort 0)))
-    (Answered (request_at input) (slice_range input STEPS_START start) (drop start input) text))
+    (Answered (request_at input) (slice_range input steps_start start) (drop start input) text))
     (sym (le-ltb (length input) start p.long)) of_request
 
 pub returns-in-Some : goal.returns-in-Some

@@ -5,7 +5,7 @@ use Rattle.std.specs.Result.{result_ok}
 use Rattle.std.proofs.lemmas.Result.{on_ok_weaker}
 use Rattle.survey.specs.Sealing.{sealed_contents}
 use Rattle.survey_file.specs.Decode.{decode}
-use Rattle.sheet.specs.declared.print.TheConstants.{PAGE}
+use Rattle.answers.specs.Texts.{page_bytes}
 use Rattle.answers.specs.Price.{steps_in, IsStepsAnswer}
 use Rattle.answers.proofs.Printed.{read_printed}
 use Rattle.answers.proofs.price.answer_parts.Goals as goal
@@ -21,6 +21,6 @@ returns-in-Some g c =
     on_ok_weaker c.print_sheet.result
     (λ printed.
     read_printed g.W.Write c.args.out.now c.survey_in.new.out c.print_sheet.new.out parts.file.now
-    (λ d. IsStepsAnswer d parts.request (steps_in parts.steps.now) PAGE) contents read told.printed
-    (printed.0, subst (λ s. IsStepsAnswer contents parts.request s PAGE printed.0) steps printed.1, printed.2))
+    (λ d. IsStepsAnswer d parts.request (steps_in parts.steps.now) page_bytes) contents read told.printed
+    (printed.0, subst (λ s. IsStepsAnswer contents parts.request s page_bytes printed.0) steps printed.1, printed.2))
     c.print_sheet.ensures
