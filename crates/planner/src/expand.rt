@@ -96,8 +96,8 @@ impl<S: Site> Query<'_, S> {
         }
         let mut after = work.cells[self.place_of(from.at)].head;
         while let Some(way) = after {
-            self.offer_way(work, from, way);
-            after = work.cells[way].next;
+            self.offer_way(work, from, way as usize);
+            after = work.cells[way as usize].next;
         }
     }
 }

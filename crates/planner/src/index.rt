@@ -7,14 +7,14 @@ use search::cell::CellRow;
 use subject::site::Site;
 
 // Puts the way `n` before the ways that leave the place `at`.
-fn put_first<C>(cells: &mut [CellRow<C>], at: usize, n: usize)
+fn put_first<C>(cells: &mut [CellRow<C>], at: usize, n: u16)
     requires place { at < length cells.old }
     requires way { n < length cells.old }
     ensures cells { cells_of cells.new ≡ cells_of cells.old }
     ensures heads { heads_of cells.new ≡ slice_set (heads_of cells.old) at (Some n) }
     ensures nexts { nexts_of cells.new ≡ slice_set (nexts_of cells.old) n (slice_index_or (heads_of cells.old) at None) }
 {
-    cells[n].next = cells[at].head;
+    cells[n as usize].next = cells[at].head;
     cells[at].head = Some(n);
 }
 
@@ -27,7 +27,7 @@ fn enter_way<S: Site>(site: &S, cells: &mut [CellRow<S::Charge>], n: usize)
     ensures indexed { IsIndexed (S.Site.meaning site.now) (heads_of cells.new) (nexts_of cells.new) (n + 1) }
 {
     if let Some(w) = site.way(n) {
-        put_first(cells, w.from, n);
+        put_first(cells, w.from, n as u16);
     }
 }
 

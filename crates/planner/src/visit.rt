@@ -34,6 +34,7 @@ impl<S: Site> Query<'_, S> {
         let Some(hint) = work.cells[place].hint else {
             return false;
         };
+        let hint = hint as usize;
         if hint == at || hint >= work.cells.len() {
             return false;
         }

@@ -98,5 +98,5 @@ pub fn set_hint<C>(cells: &mut [CellRow<C>], at: usize, hint: usize)
     ensures cells { cells_of cells.new ≡ cells_of cells.old }
     ensures index { SameIndex cells.old cells.new }
 {
-    cells[at].hint = Some(hint);
+    cells[at].hint = u32::try_from(hint).ok();
 }

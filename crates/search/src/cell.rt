@@ -39,9 +39,9 @@ pub enum Cell<C> {
 #[derive(Clone, Copy)]
 pub struct CellRow<C> {
     pub cell: Cell<C>,
-    pub hint: Option<usize>,
-    pub head: Option<usize>,
-    pub next: Option<usize>,
+    pub hint: Option<u32>,
+    pub head: Option<u16>,
+    pub next: Option<u16>,
 }
 
 impl<C: Copy> Cell<C> {

@@ -10,7 +10,7 @@ pub fn rows_of<R: Copy>(alloc: Global, row: R, count: usize) -> Result<Vec<R>, A
 {
     let mut rows = Vec::with_capacity(alloc, count)?;
     for _ in 0..count {
-        rows.push(row)?;
+        rows.push_reserved(row);
     }
     Ok(rows)
 }

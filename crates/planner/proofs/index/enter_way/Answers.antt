@@ -1,9 +1,26 @@
 -- One more way is in the index: a shut one changes nothing, an open one becomes the largest of its place.
-use Rattle.std.proofs.Common.{sym, refl, arith}
+use Rattle.std.proofs.Common.{◌≡◌, ℕ, ◌<◌, Some, None, Option, sym, refl, ◌∙◌, inl, inr, arith}
+use Rattle.std.proofs.lemmas.Bool.{cases_lt}
+use Rattle.subject.specs.declared.way.Way.{Way}
+use Rattle.subject.specs.Sites.{SiteMeaning, IsBounded}
 use Rattle.search.specs.Columns.{heads_of, nexts_of}
 use Rattle.search.proofs.Walks.{index_way, index_shut}
 use lib.ListN.{length-map}
 use Rattle.planner.proofs.index.enter_way.Goals as goal
+
+-- an open way has a number below the number of ways
+open_below : {C : Type 0} (m : SiteMeaning C) (n : ℕ) (w : Way C) → IsBounded m → m.way n ≡ Some w → n < m.ways
+open_below {C} m n w b opens = elim (cases_lt n m.ways) [
+  | inl h ↦ h
+  | inr past ↦ absurd (let two : ◌≡◌ {A = Option (Way C)} None (Some w) = sym (b.no_way n past) ∙ opens in cc)
+]
+
+pub overflow_cast-n : goal.overflow_cast-n
+overflow_cast-n g c =
+    let b = g.S.Site.is_bounded c.args.site.now in
+    let few = b.few_ways in
+    let below = open_below (g.S.Site.meaning c.args.site.now) c.args.n c.in-Some.w b (sym c.in-Some.ensures) in
+    record { fits = omega arith }
 
 pub put_first-requires : goal.put_first-requires
 put_first-requires g c =
