@@ -84,6 +84,12 @@ abbrev pub IsExchanged : {C L : Type 0} → TreeQueue C L → TreeQueue C L → 
 IsExchanged q q' i j =
     IsExchange (cells q.rows.now) (positions q.rows.now) (cells q'.rows.now) (positions q'.rows.now) i j
 
+-- the cell at a position, with its charge
+pub record IsStanding {C L : Type 0} (q : TreeQueue C L) (position cell : ℕ) (charge : C) : Type 0 where
+  pub inside : position < length q.rows.now
+  pub there : cell ≡ slice_index (cells q.rows.now) position
+  pub its_charge : (d : C) → charge ≡ slice_index_or (charges q.rows.now) cell d
+
 -- the cell at the last position that waits, with its charge, waits no more, and the rows stay as they are
 pub record IsLastTaken {C L : Type 0} (q q' : TreeQueue C L) (cell : ℕ) (charge : C) : Type 0 where
   pub waited : 0 < q.len

@@ -61,7 +61,7 @@ impl<'a, C: Charge, L: Layout> TreeQueue<'a, C, L> {
 impl<C: Charge, L: Layout> TreeQueue<'_, C, L> {
     ghost use Rattle.std.specs.Prelude.{◌-◌};
     ghost use Rattle.tree_queue.specs.Queues.{row_count, row_lenders, what_waits, rank};
-    ghost use Rattle.tree_queue.specs.Queues.{IsInOrder, IsCharged, IsTakenFrom, IsLastTaken};
+    ghost use Rattle.tree_queue.specs.Queues.{IsInOrder, IsCharged, IsStanding, IsTakenFrom, IsLastTaken};
 
     // `cell` has another charge, and is where it was.
     #[tactic(auto, using(crate::proofs::Columns::columns))]
@@ -108,9 +108,26 @@ impl<C: Charge, L: Layout> TreeQueue<'_, C, L> {
         }
     }
 
-    // The cell on top, with its charge, leaves; none where no cell waits.
+    /// The cell at a position, with its charge, and nothing changes; none where there is no such position.
+    ///
+    /// The cells at the first positions wait, and the one at position 0 is on top.
+    #[tactic(auto, using(crate::proofs::Columns::reads))]
+    pub fn standing(&self, position: usize) -> Option<(usize, C)>
+        ensures none { IfNone result (row_count self.now ≤ position) }
+        ensures some { IfSome result (λ p. IsStanding self.now position p.0 p.1) }
+    {
+        if position >= self.rows.len() {
+            return None;
+        }
+        let cell = self.rows[position].cell;
+        Some((cell, self.rows[cell].charge))
+    }
+
+    /// The cell on top leaves with its charge; none where no cell waits, and nothing changes.
+    ///
+    /// A layout of one's own takes its lowest cell by this call or by `take_last`.
     #[tactic(auto, using(crate::proofs::Columns::on_rows))]
-    pub(crate) fn take_top(&mut self) -> Option<(usize, C)>
+    pub fn take_top(&mut self) -> Option<(usize, C)>
         requires { IsInOrder L.Layout C.Charge self.old }
         ensures order { IsInOrder L.Layout C.Charge self.new }
         ensures same { SameRows row_count row_lenders self.old self.new }
@@ -128,9 +145,9 @@ impl<C: Charge, L: Layout> TreeQueue<'_, C, L> {
         Some((cell, charge))
     }
 
-    // The last cell that waits leaves with its charge, and the rows stay as they are; none where no cell waits.
+    /// The last cell that waits leaves with its charge, and the rows stay as they are; none where no cell waits.
     #[tactic(auto, using(crate::proofs::Columns::reads))]
-    pub(crate) fn take_last(&mut self) -> Option<(usize, C)>
+    pub fn take_last(&mut self) -> Option<(usize, C)>
         ensures none { IfNone result ((self.old.len ≡ 0) × (self.new ≡ self.old)) }
         ensures some { IfSome result (λ p. IsLastTaken self.old self.new p.0 p.1) }
     {
