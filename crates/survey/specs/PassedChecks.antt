@@ -6,7 +6,6 @@ use Rattle.std.specs.List.{slice_get}
 use Rattle.std.proofs.lemmas.Bool.{eqb-true, ltb-true, leb-true}
 use Rattle.subject.specs.declared.refusal.Refusal.{Refusal}
 use Rattle.subject.specs.declared.refusal.Refusal.TheVariants.{WrongEnds, WrongLetter, TooLong}
-use Rattle.subject.specs.declared.site.TheConstants.{MOST_LOSS}
 use Rattle.survey.specs.declared.card.TheConstants.{MOST_METRES, U_LOSS, S_LOSS, F_LOSS}
 use Rattle.survey.specs.declared.entry.WayEntry.{WayEntry}
 use Rattle.survey.specs.Card.{row_of, loss_per_100_metres, hundredth, loss_of, entry_of}
@@ -71,9 +70,9 @@ way_ends n w h =
     let ends = then_passed (ends_check n w) (λ _. then (loss_of w.letter w.metres) (λ _. price_check w.price)) h in
     ends_by (ltb w.from n) (ltb w.to n) (eqb w.from w.to) n w ends.0 refl refl refl ends.1
 
--- its loss is at most that of the longest way of the cable that loses most, which a site allows
+-- its loss is at most that of the longest way of the cable that loses most
 loss_by : (b : Bool) (metres f l : ℕ) → f ≤ U_LOSS → leb metres MOST_METRES ≡ b
-    → cond b (Ok (hundredth (metres * f))) (Err TooLong) ≡ Ok l → l ≤ MOST_LOSS
+    → cond b (Ok (hundredth (metres * f))) (Err TooLong) ≡ Ok l → l ≤ hundredth (MOST_METRES * U_LOSS)
 loss_by true metres f l h few e =
     let short = leb-true metres MOST_METRES few in
     let most : metres * f ≤ MOST_METRES * U_LOSS = mul-le-mul short h in
@@ -86,10 +85,10 @@ loss_by_row true c = omega arith
 loss_by_row false true = omega arith
 loss_by_row false false = omega arith
 
-loss_row : (r : Result ℕ Refusal) (metres l : ℕ) → entry_of r metres ≡ Ok l → l ≤ MOST_LOSS
+loss_row : (r : Result ℕ Refusal) (metres l : ℕ) → entry_of r metres ≡ Ok l → l ≤ hundredth (MOST_METRES * U_LOSS)
 loss_row (Ok row) metres l h =
     loss_by (leb metres MOST_METRES) metres (loss_per_100_metres row) l (loss_by_row (eqb row 0) (eqb row 1)) refl h
 loss_row (Err e) metres l h = let z : ◌≡◌ {A = ℕ} 0 1 = cc in absurd (omega arith)
 
-pub loss_small : (letter metres l : ℕ) → loss_of letter metres ≡ Ok l → l ≤ MOST_LOSS
+pub loss_small : (letter metres l : ℕ) → loss_of letter metres ≡ Ok l → l ≤ hundredth (MOST_METRES * U_LOSS)
 loss_small letter metres l h = loss_row (row_of letter) metres l h
