@@ -9,13 +9,14 @@ ghost use Rattle.answers.specs.Desk.{answer_words, done_word, entry_line, entry_
 ghost use Rattle.answers.specs.Desk.{IsDeskAnswer, IsReplayText};
 ghost use Rattle.answers.specs.Rooms.{IsGivenText, RowsCover};
 
+use arrayvec::ArrayVec;
 use job::list::{Answer, Call, Entry};
 use job::script::{Script, Trouble, read_script_bytes};
 use planner::plan::Planned;
 use relays::replay_for_money;
 use search::memory::Memory;
 use search::owned::OwnedRows;
-use sheet::print::{print_refusal, print_sheet, survey_in};
+use sheet::print::{print_refusal, print_sheet, print_text, survey_in};
 use sheet::refused::Refused;
 use std::alloc::Global;
 use std::fmt;
@@ -27,6 +28,9 @@ use subject::run::{Request, Step};
 use survey::sealed::Sealed;
 use tree_queue::heap::Heap;
 use tree_queue::row::blank_rows;
+
+// The room for a line of an entry or of a trouble. The longest has 119 bytes, with a number of 20 digits.
+const LINE: usize = 128;
 
 // What one listed call gave, as it is printed.
 #[derive(Clone, Copy)]
@@ -62,13 +66,14 @@ fn done_word(call: Call) -> &'static str
     }
 }
 
-// The line of one entry.
+// The line of one entry. It is laid out first, so that a line is one write.
 fn print_entry<W: Write>(entry: Entry<Money>, out: &mut W) -> anyhow::Result<()>
     ensures { OnOk result (IsPrinted W.Write out.old out.new (entry_line entry)) }
 {
     let gave = Gave { entry };
-    writeln!(out, "{gave}")?;
-    Ok(())
+    let mut line: ArrayVec<u8, LINE> = ArrayVec::new();
+    writeln!(line, "{gave}")?;
+    print_text(out, line.as_slice())
 }
 
 // A line for each entry.
@@ -85,8 +90,9 @@ fn print_entries<W: Write>(entries: &[Entry<Money>], out: &mut W) -> anyhow::Res
 fn print_trouble<W: Write>(trouble: Trouble, out: &mut W) -> anyhow::Result<()>
     ensures { OnOk result (IsPrinted W.Write out.old out.new (trouble_line trouble)) }
 {
-    writeln!(out, "{trouble}; nothing was tried")?;
-    Ok(())
+    let mut line: ArrayVec<u8, LINE> = ArrayVec::new();
+    writeln!(line, "{trouble}; nothing was tried")?;
+    print_text(out, line.as_slice())
 }
 
 // What a plan over a survey gave: the sheet of its run, which is in the first run rows, or why there is none.

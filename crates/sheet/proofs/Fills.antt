@@ -45,6 +45,17 @@ module _ (at : ℕ) (xs ys : List ℕ) (inside : at ≤ length xs) where
   part : mid_of at (length xs - at) xs ≡ drop at xs
   part = take_all (length xs - at) (drop at xs) (let l = length-drop at xs in omega arith)
 
+-- how long the part from `at` on is
+pub room_left : (at : ℕ) (xs : List ℕ) → at ≤ length xs → length (mid_of at (length xs - at) xs) ≡ length xs - at
+room_left at xs inside = ap length (part at xs [] inside) ∙ length-drop at xs
+
+-- what a read gave, at the front of the part that was lent to it, is behind what came before
+pub came_next : (o m n : Option (List ℕ)) (at count : ℕ) (xs ys : List ℕ) → at ≤ length xs → count ≤ length ys
+    → Consumes o m (take at xs) → Consumes m n (take count ys)
+    → Consumes o n (take (at + count) (put_mid at (length xs - at) xs ys))
+came_next o m n at count xs ys inside few p q =
+    Consumes-append o m n (take at xs) (take count ys) _ (front at xs ys inside count few) p q
+
 module _ {R : Type 0} (r : ReadGhosts R) (source mid after : R) (start buffer piece : List ℕ) (at n : ℕ) where
   abbrev lent : List ℕ
   lent = mid_of at (length buffer - at) buffer
@@ -54,12 +65,11 @@ module _ {R : Type 0} (r : ReadGhosts R) (source mid after : R) (start buffer pi
       → Filled r source after start (put_mid at (length buffer - at) buffer piece) (at + n)
   filled_next same as_many f g =
       let inside : at ≤ length buffer = omega (arith, same, f.fits) in
-      let room = ap length (part at buffer piece inside) ∙ length-drop at buffer in
+      let room = room_left at buffer inside in
       let few : n ≤ length piece = omega (arith, g.fits, as_many) in
       record {
         fits = omega (arith, g.fits, room, same, inside);
-        came =
-            Consumes-append _ _ _ (take at buffer) (take n piece) _ (front at buffer piece inside n few) f.came g.came;
+        came = came_next _ _ _ at n buffer piece inside few f.came g.came;
         behind =
             end at buffer piece inside n
             ∙ g.behind

@@ -1,5 +1,5 @@
 pub mod Growing
 pub mod Stepping
 pub mod Following
-mod Fills
+pub mod Fills
 mod Pages

@@ -8,4 +8,4 @@ pub mod pricing;
 pub mod print;
 pub mod refused;
 mod steps;
-mod text;
+pub mod text;

@@ -95,8 +95,8 @@ pub fn read_input(rt: &HostRuntime, buffer: &mut [u8]) -> io::Result<usize>
     fill(&mut rt.stdin(), buffer)
 }
 
-// Prints a text to a writer.
-fn print_text<W: Write>(out: &mut W, text: &[u8]) -> anyhow::Result<()>
+/// Prints a text to a writer.
+pub fn print_text<W: Write>(out: &mut W, text: &[u8]) -> anyhow::Result<()>
     ensures { OnOk result (IsPrinted W.Write out.old out.new text.now) }
 {
     out.write_all(text)?;

@@ -3,11 +3,10 @@ use itoa::Buffer;
 use subject::refusal::Refusal;
 use survey_file::bytes::put;
 
-// One line of text, of at most 128 bytes, which grows piece by piece and takes no memory.
-//
+/// One line of text, of at most 128 bytes, which grows piece by piece and takes no memory.
 // It is no `ArrayString` with `write!`: no clause says that this is `Ok` where there is room.
 #[derive(Drop)]
-pub(crate) struct TextLine {
+pub struct TextLine {
     text: ArrayVec<u8, 128>,
 }
 

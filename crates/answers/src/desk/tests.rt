@@ -98,6 +98,35 @@ fn a_file_is_refused(rt: HostRuntime) -> Result<(), Fail> {
     Ok(())
 }
 
+// A writer that counts how often it is written to.
+#[derive(Drop)]
+struct Counting {
+    writes: usize,
+}
+
+impl Write for Counting {
+    fn write(&mut self, buf: &[u8]) -> io::Result<usize> {
+        self.writes = self.writes.saturating_add(1);
+        Ok(buf.len())
+    }
+
+    fn flush(&mut self) -> io::Result<()> {
+        Ok(())
+    }
+}
+
+// A line of an answer is one write, and so are a sheet and the line of a trouble: who reads a pipe gets whole lines.
+#[test]
+fn a_line_is_one_write(rt: HostRuntime) -> Result<(), Fail> {
+    let mut out = Counting { writes: 0 };
+    assert!(rt; answer(rt.alloc(), &HOUSE, CALLS, &mut out).is_ok());
+    assert_eq!(rt; out.writes, 8);
+    let mut out = Counting { writes: 0 };
+    assert!(rt; answer(rt.alloc(), &HOUSE, b"x", &mut out).is_ok());
+    assert_eq!(rt; out.writes, 1);
+    Ok(())
+}
+
 // A writer that fails behind so many bytes.
 struct Narrow {
     text: Vec<u8>,
