@@ -1,7 +1,7 @@
 // All lawful runs of a small house that never leave a place twice with the same loss, by plain recursion.
 use crate::house::Question;
 use std::alloc::{AllocError, Global};
-use std::collections::BTreeSet;
+use std::collections::HashSet;
 use subject::run::MOST_BOUND;
 use survey::entry::WayEntry;
 use survey::sealed::Sealed;
@@ -67,13 +67,19 @@ impl Listing<'_> {
         })
     }
 
-    // Lists the runs that go on from here, in at most `depth` steps. The run has come by the places `behind`, each with
-    // its loss there.
+    // The number of the cell that a place with a loss is.
+    fn cell_of(&self, here: Here) -> usize {
+        here.place
+            .saturating_mul(self.asked.request.bound.saturating_add(1))
+            .saturating_add(here.loss)
+    }
+
+    // Lists the runs that go on from here, in at most `depth` steps. The run has come by the cells `behind`.
     fn walk(
         &self,
         here: Here,
         depth: usize,
-        behind: &mut BTreeSet<(usize, usize)>,
+        behind: &mut HashSet<usize>,
         found: &mut Found,
     ) -> Result<(), AllocError> {
         if here.place == self.asked.request.end {
@@ -81,7 +87,8 @@ impl Listing<'_> {
             found.money = lower(found.money, here.cents);
             found.grade = lower(found.grade, here.grade);
         }
-        if depth == 0 || !behind.insert((here.place, here.loss))? {
+        let cell = self.cell_of(here);
+        if depth == 0 || !behind.insert(cell)? {
             return Ok(());
         }
         for (number, way) in self.survey.all_ways().iter().enumerate() {
@@ -97,7 +104,7 @@ impl Listing<'_> {
                 }
             }
         }
-        behind.remove(&(here.place, here.loss));
+        behind.remove(&cell);
         Ok(())
     }
 }
@@ -110,7 +117,7 @@ pub fn list_runs(alloc: Global, survey: &Sealed, asked: &Question) -> Result<Fou
         grade: None,
     };
     let cells = survey.places() * (MOST_BOUND + 1);
-    let mut behind = BTreeSet::new(alloc);
+    let mut behind = HashSet::new(alloc);
     if asked.request.start < survey.places() {
         let here = Here {
             place: asked.request.start,

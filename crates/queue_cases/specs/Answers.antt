@@ -1,5 +1,5 @@
 -- What an answer says of a call on a queue. Stands on what queue calls do.
-use Rattle.std.specs.Prelude.{◌≡◌, ℕ, ◌<◌, ◌≤◌, ◌⊎◌, List, [], ◌∷◌, None, Some, Option, Ok, Err}
+use Rattle.std.specs.Prelude.{◌≡◌, ℕ, ◌<◌, ◌≤◌, ◌⊎◌, List, [], ◌∷◌, None, Some, Option, Ok, Err, length, slice_index_or}
 use Rattle.subject.specs.declared.money.Money.{Money}
 use Rattle.subject.specs.declared.queue.PriorityQueue.{Ghosts as QueueGhosts}
 use Rattle.subject.specs.declared.refusal.Refusal.TheVariants.{NoSuchCell}
@@ -54,6 +54,17 @@ pub record IsLineAnswer (n : ℕ) (before after : Waits) (line : Line) (r : Opti
 abbrev pub IsLineAnswerOn : {Q : Type 0} → QueueGhosts Q Money → Q → Q → Line → Option Answer → Type 0
 IsLineAnswerOn q before after line r = IsLineAnswer (q.rows before) (q.waits before) (q.waits after) line r
 
+-- a queue has answered a line
+pub record HasAnswered {Q : Type 0} (q : QueueGhosts Q Money) (line : Line) (before after : Q) (r : Option Answer) : Type 0 where
+  pub rows : q.rows after ≡ q.rows before
+  pub answer : IsLineAnswerOn q before after line r
+
+-- each of the queues has answered a line
+abbrev pub HaveAnswered : {Q : Type 0} → QueueGhosts Q Money → Line → List Q → List Q → List (Option Answer) → Type 0
+HaveAnswered {Q} q line before after answers =
+    (k : ℕ) (d : Q) (r : Option Answer) → k < length before
+    → HasAnswered q line (slice_index_or before k d) (slice_index_or after k d) (slice_index_or answers k r)
+
 -- the answers to lines in turn, each where the lines before it left the queue
 abbrev pub AreAnswers : ℕ → Waits → Waits → List Line → List (Option Answer) → Type 0
 AreAnswers n before after [] [] = after ≡ before
@@ -71,3 +82,13 @@ AreAnswersOf q before lines answers = AreAnswersFrom (q.rows before) (q.waits be
 -- the answers of a queue of `n` rows in which no cell waits at first
 abbrev pub AreNewAnswers : ℕ → List Line → List (Option Answer) → Type 0
 AreNewAnswers n lines answers = (before : Waits) × NoneWaits before × AreAnswersFrom n before lines answers
+
+-- a queue has answered the lines in turn
+pub record HasPlayed {Q : Type 0} (q : QueueGhosts Q Money) (lines : List Line) (before after : Q) : Type 0 where
+  pub rows : q.rows after ≡ q.rows before
+  pub answers : (r : List (Option Answer)) × AreAnswers (q.rows before) (q.waits before) (q.waits after) lines r
+
+-- each of the queues has answered the lines in turn
+abbrev pub HavePlayed : {Q : Type 0} → QueueGhosts Q Money → List Line → List Q → List Q → Type 0
+HavePlayed {Q} q lines before after =
+    (k : ℕ) (d : Q) → k < length before → HasPlayed q lines (slice_index_or before k d) (slice_index_or after k d)

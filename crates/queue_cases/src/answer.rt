@@ -1,6 +1,7 @@
 // Calls on any queue for money, and its answers.
-ghost use Rattle.std.specs.Prelude.{◌≡◌, IfOk};
-ghost use Rattle.queue_cases.specs.Answers.{IsAnswer, IsLineAnswerOn, AreAnswersOf};
+ghost use Rattle.std.specs.Prelude.{◌≡◌, length, IfOk};
+ghost use Rattle.std.specs.List.{All};
+ghost use Rattle.queue_cases.specs.Answers.{IsAnswer, IsLineAnswerOn, HaveAnswered, AreAnswersOf};
 
 use crate::call::{Call, Line};
 use std::alloc::{AllocError, Global};
@@ -61,6 +62,22 @@ fn ask_line<Q: PriorityQueue<Charge = Money>>(queue: &mut Q, line: &Line) -> Opt
     ensures answer { IsLineAnswerOn Q.PriorityQueue queue.old queue.new line.now result }
 {
     Some(ask(queue, line.call?))
+}
+
+/// The answer of each queue to the call on a line, in place of what `answers` held; none where there is no call.
+pub fn ask_each<Q: PriorityQueue<Charge = Money>>(
+    queues: &mut [Q],
+    line: &Line,
+    answers: &mut [Option<Answer>],
+)
+    requires ordered { All Q.PriorityQueue.is_ordered queues.old }
+    requires as_many { length answers.old ≡ length queues.old }
+    ensures ordered { All Q.PriorityQueue.is_ordered queues.new }
+    ensures answered { HaveAnswered Q.PriorityQueue line.now queues.old queues.new answers.new }
+{
+    for (i, queue) in queues.iter_mut().enumerate() {
+        answers[i] = ask_line(queue, line);
+    }
 }
 
 /// The answers of a queue to the lines in turn, none for a line that has no call.

@@ -10,6 +10,8 @@ mod answer;
 mod call;
 mod kind;
 mod replay;
+#[cfg(test)]
+mod tests;
 
 fn run(rt: &HostRuntime) -> anyhow::Result<()> {
     let text = io::read_to_string(rt.alloc(), rt.stdin())?;

@@ -1,11 +1,15 @@
 // The lines of the text on a queue of each kind, block by block: each "rows R" starts a block with fresh rows.
-ghost use Rattle.std.specs.Prelude.{◌≡◌, if◌then◌else◌};
+ghost use Rattle.std.specs.Prelude.{◌≡◌, if◌then◌else◌, length, OnOk};
+ghost use Rattle.std.specs.List.{All};
+ghost use Rattle.queue_cases.specs.Answers.{HavePlayed};
 ghost use Rattle.queue_cases.specs.Counts.{count_after};
 
-use crate::answer::Answer;
+use crate::answer::{Answer, ask_each};
 use crate::call::{Call, Line};
-use crate::kind::{ALL_QUEUES, KINDS};
+use crate::kind::{ALL_QUEUES, queues_over, rows_of_kinds};
 use std::{fmt, io};
+use subject::money::Money;
+use subject::queue::PriorityQueue;
 
 /// To how many calls all queues answered alike, and to how many not.
 #[derive(Clone, Copy)]
@@ -51,17 +55,17 @@ struct Player<'a> {
 impl Player<'_> {
     // The answers to one line: the first and SAME, or the first, OTHER and those that differ from it. A line
     // that no queue answers cannot be read.
-    fn print(&mut self, number: u64, answers: &[Answer]) -> io::Result<()> {
-        let Some((first, others)) = answers.split_first() else {
+    fn print(&mut self, number: u64, answers: &[Option<Answer>]) -> io::Result<()> {
+        let Some((Some(first), others)) = answers.split_first() else {
             return println!(self.rt; "LINE {number} CANNOT BE READ");
         };
-        let same = others.iter().all(|other| other == first);
+        let same = others.iter().flatten().all(|other| other == first);
         self.tally.count(same);
         if same {
             return println!(self.rt; "{first} SAME");
         }
         print!(self.rt; "{first} OTHER")?;
-        for other in others {
+        for other in others.iter().flatten() {
             if other != first {
                 print!(self.rt; " {other}")?;
             }
@@ -69,20 +73,32 @@ impl Player<'_> {
         println!(self.rt; "")
     }
 
+    // The lines in turn, each on all of the queues. The answers to a line are printed before the next line is played.
+    fn play_lines<Q: PriorityQueue<Charge = Money>>(
+        &mut self,
+        queues: &mut [Q],
+        answers: &mut [Option<Answer>],
+        lines: &[Line],
+    ) -> io::Result<()>
+        requires ordered { All Q.PriorityQueue.is_ordered queues.old }
+        requires as_many { length answers.old ≡ length queues.old }
+        ensures ordered { All Q.PriorityQueue.is_ordered queues.new }
+        ensures played { OnOk result (HavePlayed Q.PriorityQueue lines.now queues.old queues.new) }
+    {
+        for line in lines {
+            ask_each(queues, line, answers);
+            self.print(line.number, answers)?;
+        }
+        Ok(())
+    }
+
     // A block of lines that begins with the number of rows.
     fn play_block(&mut self, row_count: usize, lines: &[Line]) -> anyhow::Result<()> {
         let alloc = self.rt.alloc();
-        let mut of_kinds = Vec::new(alloc);
-        for kind in KINDS {
-            of_kinds.push(kind.answers(alloc, row_count, lines)?)?;
-        }
-        for (i, line) in lines.iter().enumerate() {
-            let answers: Vec<Answer> = of_kinds
-                .iter()
-                .filter_map(|answers| answers.get(i).copied().flatten())
-                .collect(alloc)?;
-            self.print(line.number, &answers)?;
-        }
+        let mut rows = rows_of_kinds(alloc, row_count)?;
+        let mut queues = queues_over(alloc, &mut rows)?;
+        let mut answers = vec![in alloc; None; queues.len()]?;
+        self.play_lines(&mut queues, &mut answers, lines)?;
         Ok(())
     }
 }
